@@ -65,7 +65,9 @@ keeps_since Tells old mid new before why earlier keeps =
           subst (λ f. StandsNow config (option_map_or (λ failure. with_failed h caller call failure.before failure.after) f h) new) same (both.stands told config h stands caller call);
       any_moment = both.any_moment;
       numbers = both.numbers;
+      drawn = both.drawn;
       faults = both.faults;
+      retired = both.retired;
       pins = both.pins;
       pinned = both.pinned;
     }

@@ -27,13 +27,14 @@ use Rattle.lethe_job.specs.Works.{IsInLevels}
 use Rattle.lethe_pins.specs.Held.{Held, is_named}
 use Rattle.lethe_core.specs.Asked.{Serves, counted, failure_of, refused_to, stopped_by}
 use Rattle.lethe_core.specs.Keeps.{Keeps, MayStep}
-use Rattle.lethe_core.specs.Pinned.{AreKept}
+use Rattle.lethe_core.specs.Pinned.{AreKept, AreRetiredFrom}
 use Rattle.lethe_core.specs.Reasons.{HasReason}
 use Rattle.lethe_core.specs.Running.{IsFlying, IsSmall, IsSound}
 use Rattle.lethe_core.specs.StandsNow.{StandsNow, retried}
 use Rattle.lethe_core.specs.Steps.{IsAsBefore, IsHindered, IsUndone}
 use Rattle.lethe_core.specs.View.{Flying, View}
 use Rattle.lethe_core.proofs.Asked.{counted_none, refused_none, stopped_none}
+use Rattle.lethe_core.proofs.Retired.{retired_same, retired_then}
 use Rattle.lethe_core.proofs.Standing.{beside, is_beside, left_at_end, moments_or, sound_back, stands_back, stands_done, stands_for, stands_moments, stopped_stands}
 
 -- Numbers that are drawn
@@ -160,6 +161,11 @@ module _ (Tells : Type 0) (old new : View) (before : ℕ) where
   hindered_pins NoMemory is = is.1.pins
   hindered_pins why is = absurd is
 
+  hindered_retired : (why : Refused) → IsHindered Tells old new before why → new.retired ≡ old.retired
+  hindered_retired (Fault place b a) is = is.5.retired
+  hindered_retired NoMemory is = is.1.retired
+  hindered_retired why is = absurd is
+
   pub hindered_next : (why : Refused) → IsHindered Tells old new before why → new.state.next ≡ old.state.next
   hindered_next (Fault place b a) is = ap (λ (state : State). state.next) is.4
   hindered_next NoMemory is = ap (λ (state : State). state.next) is.0
@@ -194,7 +200,9 @@ hindered_keeps Tells old new before may why is goes itself later faults kept = r
   stands = λ told config h stands caller call. hindered_stands Tells old new before config h stands may.runs told may.fits (goes told config h stands) (itself told) caller call why is;
   any_moment = goes;
   numbers = λ told. let same = hindered_next Tells old new before why is in let on = later told in omega (arith, same, on);
+  drawn = let same = hindered_next Tells old new before why is in omega (arith, same);
   faults = faults;
+  retired = retired_same old.pins.pins old.retired new.retired (hindered_retired Tells old new before why is);
   pins = hindered_pins Tells old new before why is;
   pinned = kept;
 }
@@ -208,7 +216,9 @@ keeps_itself Tells view sound runs None none = record {
   stands = λ told config h stands caller call. stands;
   any_moment = λ told config h stands. stands_moments config h view stands runs sound.writable;
   numbers = λ told. omega arith;
+  drawn = omega arith;
   faults = omega arith;
+  retired = retired_same view.pins.pins view.retired view.retired refl;
   pins = refl;
   pinned = λ told name named. refl;
 }
@@ -219,7 +229,9 @@ keeps_itself Tells view sound runs (Some why) none = record {
   stands = λ told config h stands caller call. subst (λ g. StandsNow config g view) (sym (refused_none h caller call why none)) stands;
   any_moment = λ told config h stands. stands_moments config h view stands runs sound.writable;
   numbers = λ told. omega arith;
+  drawn = omega arith;
   faults = omega arith;
+  retired = retired_same view.pins.pins view.retired view.retired refl;
   pins = refl;
   pinned = λ told name named. refl;
 }
@@ -236,7 +248,9 @@ keeps_then Tells a b c one why two =
       any_moment = λ told config h stands.
           goes_from_then (λ d. IsKept config d h) a.state.next b.state.next a.disk b.disk c.disk (one.any_moment told config h stands) (one.numbers told) (two.any_moment told config h (mid told config h stands));
       numbers = λ told. let early = one.numbers told in let late = two.numbers told in omega (arith, early, late);
+      drawn = let early = one.drawn in let late = two.drawn in omega (arith, early, late);
       faults = let early = one.faults in let late = two.faults in omega (arith, early, late);
+      retired = retired_then a.pins.pins a.retired b.retired c.retired one.retired (subst (λ (held : Held). AreRetiredFrom held.pins b.retired c.retired) one.pins two.retired);
       pins = two.pins ∙ one.pins;
       pinned = λ told name named. two.pinned told name (subst (λ (held : Held). IsTrue (is_named held.pins name)) (sym one.pins) named) ∙ one.pinned told name named;
     }

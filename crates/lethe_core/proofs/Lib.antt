@@ -3,6 +3,7 @@ pub mod Histories
 pub mod Timely
 pub mod Beside
 pub mod Standing
+pub mod Retired
 pub mod Hindered
 pub mod Kept
 pub mod Carried
@@ -36,3 +37,4 @@ pub mod Roomed
 pub mod Chosen
 pub mod SweptPuts
 pub mod Copying
+pub mod Faces

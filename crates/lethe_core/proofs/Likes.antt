@@ -1,6 +1,6 @@
 -- What a store is where memory was reserved.
 use Rattle.std.specs.Prelude.{option_map}
-use Rattle.std.proofs.Common.{◌≡◌, ◌≤◌, ◌<◌, ◌+◌, ℕ, List, None, length, refl, sym, ap, ◌∙◌, subst, arith}
+use Rattle.std.proofs.Common.{◌≡◌, ◌≤◌, ◌<◌, ◌+◌, ℕ, List, None, length, map, refl, sym, ap, ◌∙◌, subst, arith}
 use Rattle.lethe_base.specs.History.{History}
 use Rattle.lethe_base.specs.Shapes.{earlier}
 use Rattle.lethe_base.specs.declared.config.Fields.{Fields}
@@ -25,7 +25,7 @@ use Rattle.lethe_advance.specs.Settled.{names_in}
 use Rattle.lethe_core.specs.Running.{Holds, IsRunning, IsSmall, IsSound}
 use Rattle.lethe_core.specs.StandsNow.{StandsNow}
 use Rattle.lethe_core.specs.Steps.{IsAsBefore, IsBeside}
-use Rattle.lethe_core.specs.View.{Face, View, face_of, flying_of, loose_in, names_beside, view_of}
+use Rattle.lethe_core.specs.View.{Face, View, face_of, flying_of, limited_of, loose_in, names_beside, view_of}
 use Rattle.lethe_core.specs.declared.holding.Core.{Core}
 use Rattle.lethe_core.proofs.Hindered.{drawn_on, flies_on}
 use Rattle.lethe_core.proofs.Standing.{next_stands_now, running_back, stands_for, stands_holds}
@@ -44,24 +44,6 @@ like_remembered s old new levels like is = record {
   frozen_firsts = like.frozen_firsts ∙ is.frozen_firsts;
   files = is.files;
   counted = let le = is.counted in let same = like.count in omega (arith, le, same);
-}
-
--- with a record more behind that
-pub next_behind : (next : Record) (end : ℕ) (old mid new : State) → IsLike old mid → IsNext next end mid new → IsNext next end old new
-next_behind next end old mid new like is = record {
-  manifest = is.manifest ∙ like.manifest;
-  count = is.count ∙ ap (λ n. n + 1) like.count;
-  pending = is.pending ∙ ap (λ erases. pending_with erases next) like.pending;
-  active = subst (λ entries. Enters next entries new.active.entries) like.active is.active;
-  records = is.records ∙ ap (λ n. n + 1) like.records;
-  end_is = is.end_is;
-  oldest = is.oldest ∙ ap (λ time. earlier time (time_of next)) like.oldest;
-  firsts = is.firsts ∙ ap (λ firsts. firsts_with firsts next) like.firsts;
-  frozen = is.frozen ∙ like.frozen;
-  frozen_oldest = is.frozen_oldest ∙ like.frozen_oldest;
-  frozen_firsts = is.frozen_firsts ∙ like.frozen_firsts;
-  stopped = is.stopped ∙ like.stopped;
-  drawn = is.drawn ∙ like.next;
 }
 
 pub like_small : (old new : State) → IsLike old new → IsSmall old → IsSmall new
@@ -120,6 +102,23 @@ module _ (view : View) (new : State) (like : IsLike view.state new) where
 
 -- With one record more
 
+pub like_next : (next : Record) (end : ℕ) (a b c : State) → IsLike a b → IsNext next end b c → IsNext next end a c
+like_next next end a b c like is = record {
+  manifest = is.manifest ∙ like.manifest;
+  count = is.count ∙ ap (λ n. n + 1) like.count;
+  pending = is.pending ∙ ap (λ l. pending_with l next) like.pending;
+  active = subst (λ entries. Enters next entries c.active.entries) like.active is.active;
+  records = is.records ∙ ap (λ n. n + 1) like.records;
+  end_is = is.end_is;
+  oldest = is.oldest ∙ ap (λ time. earlier time (time_of next)) like.oldest;
+  firsts = is.firsts ∙ ap (λ firsts. firsts_with firsts next) like.firsts;
+  frozen = is.frozen ∙ like.frozen;
+  frozen_oldest = is.frozen_oldest ∙ like.frozen_oldest;
+  frozen_firsts = is.frozen_firsts ∙ like.frozen_firsts;
+  stopped = is.stopped ∙ like.stopped;
+  drawn = is.drawn ∙ like.next;
+}
+
 enters_few : (next : Record) (old new : Buffered) → Enters next old.entries new.entries → length new.entries ≤ length old.entries + 1
 enters_few (of.Entry entry) old new enters = inserts_few entry old.entries new.entries old.ascending enters
 enters_few (of.Blind place) old new enters = let same : length new.entries ≡ length old.entries = ap length enters in omega (arith, same)
@@ -137,16 +136,16 @@ next_small next end old new is room small =
 
 -- A step that left all as it was
 
--- the jobs and the pins of a store, and the pages that are retired, are as they were
-pub jobs_same : {D Page Port : Type 0} {kind : Ghosts D Page Port} (old new : Core D Page Port kind) → new.begun ≡ old.begun → new.flight ≡ old.flight → new.retired.items ≡ old.retired.items → new.pins ≡ old.pins
-    → face_of (view_of new) ≡ face_of (view_of old)
-jobs_same old new begun flight retired pins = λ i. record { begun = (begun i).jobs.count; rounds = (begun i).rounds; flight = option_map flying_of (flight i); retired = retired i; pins = pins i }
+-- the jobs and the pins of a store are as they were
+pub jobs_same : {D Page Port : Type 0} {kind : Ghosts D Page Port} (old new : Core D Page Port kind) → new.begun ≡ old.begun → new.flight ≡ old.flight → new.pins ≡ old.pins → face_of (view_of new) ≡ face_of (view_of old)
+jobs_same old new begun flight pins =
+    λ i. record { begun = (begun i).jobs.count; rounds = (begun i).rounds; flight = option_map flying_of (flight i); made = (pins i).made; held = map limited_of (pins i).pins }
 
 -- what it held it holds
-pub before_holds : (Tells : Type 0) → Tells → (old new : View) (s : Stored) → face_of new ≡ face_of old → IsAsBefore Tells old new → Holds old s → Holds new s
-before_holds Tells told old new s face is holds =
+pub before_holds : (Tells : Type 0) → Tells → (old new : View) (s : Stored) → face_of new ≡ face_of old → new.pins ≡ old.pins → IsAsBefore Tells old new → Holds old s → Holds new s
+before_holds Tells told old new s face pins is holds =
     let mid = with_state old new.state in
-    let rest : IsBeside mid new = record { levels = is.levels; retired = is.retired; flight = ap (λ (face : Face). face.flight) face; begun = ap (λ (face : Face). face.begun) face; rounds = ap (λ (face : Face). face.rounds) face; pins = ap (λ (face : Face). face.pins) face } in
+    let rest : IsBeside mid new = record { levels = is.levels; retired = is.retired; flight = ap (λ (face : Face). face.flight) face; begun = ap (λ (face : Face). face.begun) face; rounds = ap (λ (face : Face). face.rounds) face; pins = pins } in
     let like = like_holds old new.state is.state s holds in
     record {
       remembers = subst (Remembers s new.state) (sym is.levels) like.remembers;

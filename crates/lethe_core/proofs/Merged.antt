@@ -45,13 +45,14 @@ use Rattle.lethe_sweeps.proofs.SweptFor.{swept_for}
 use Rattle.lethe_sweeps.proofs.SweptRising.{swept_rises}
 use Rattle.lethe_core.specs.Keeps.{Keeps, MayStep}
 use Rattle.lethe_core.specs.Merges.{MayMerge}
-use Rattle.lethe_core.specs.Pinned.{AreKept, pages_in}
+use Rattle.lethe_core.specs.Pinned.{AreKept, AreNamed, pages_in}
 use Rattle.lethe_core.specs.Running.{Holds, IsRunning, IsSmall}
 use Rattle.lethe_core.specs.StandsNow.{IsCounted, StandsNow}
 use Rattle.lethe_core.specs.View.{View, beside_in}
 use Rattle.lethe_core.proofs.Beside.{named_left, none_drawn}
 use Rattle.lethe_core.proofs.Carried.{one_kept}
 use Rattle.lethe_core.proofs.Kept.{carried_same, page_cited, settled_page}
+use Rattle.lethe_core.proofs.Retired.{retired_named}
 use Rattle.lethe_core.proofs.Standing.{next_drawn, next_stands_now, stands_for, stands_holds}
 use Rattle.lethe_core.proofs.Timely.{timely_kept}
 
@@ -200,9 +201,9 @@ module _ (old : View) (disk : Seen) (faults : ℕ) (levels : List (List Parts)) 
           (timely_kept config.threshold h old.pins.pins old.retired made.left.items old.disk.directory disk.directory (same told s next.0 next.1 holds next.2) (stands.timely can.runs)
           (λ name there. inr (All-contains (λ name. IsTrue (is_named old.pins.pins name)) made.left.items name next.2.named there)))
 
-      pub merge_keeps : length levels ≡ length old.levels → (Tells → (config : Fields) (h : History) → StandsNow config h old → GoesFrom old.state.next (λ c. IsKept config c h) old.disk disk)
+      pub merge_keeps : AreNamed old.pins.pins made.left.items → length levels ≡ length old.levels → (Tells → (config : Fields) (h : History) → StandsNow config h old → GoesFrom old.state.next (λ c. IsKept config c h) old.disk disk)
           → (Tells → old.disk.moment + length step.objects.items + 4 ≤ disk.moment) → old.faults ≤ faults → Keeps Tells old new None
-      merge_keeps count moments calls rise = record {
+      merge_keeps named count moments calls rise = record {
         sound = record {
           writable = writable_installed old.state made.headers.items step from can.sound.writable;
           small = small_installed step.manifest old.state from.config can.sound.small;
@@ -231,7 +232,9 @@ module _ (old : View) (disk : Seen) (faults : ℕ) (levels : List (List Parts)) 
             let number = from.numbers in
             let next = from.next in
             omega (arith, called, number, next);
+        drawn = let number = from.numbers in let next = from.next in omega (arith, number, next);
         faults = rise;
+        retired = retired_named old.pins.pins old.retired made.left.items named;
         pins = refl;
         pinned = λ told.
             let held = can.sound.held told in

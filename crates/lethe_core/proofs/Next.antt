@@ -32,6 +32,7 @@ use Rattle.lethe_core.proofs.Beside.{names_beside_at}
 use Rattle.lethe_core.proofs.Carried.{IsCarried, one_kept}
 use Rattle.lethe_core.proofs.Hindered.{drawn_on, flies_on}
 use Rattle.lethe_core.proofs.Kept.{carried_same, page_cited, pages_stay, retired_beside}
+use Rattle.lethe_core.proofs.Retired.{retired_same}
 use Rattle.lethe_core.proofs.Standing.{next_drawn, next_stands_now, stands_for, stands_holds}
 use Rattle.lethe_core.proofs.Timely.{timely_kept}
 
@@ -186,7 +187,9 @@ module _ (P : Stored → Stored → Type 0) (Tells : Type 0) (old : View) (heade
             stands = λ told config h stands caller call. next_stands later told count config h stands;
             any_moment = next_moments segments from carried.moments;
             numbers = λ told. let made = carried.calls told in omega (arith, made, number, above, next);
+            drawn = omega (arith, number, above, next);
             faults = carried.faults;
+            retired = retired_same old.pins.pins old.retired new.retired carried.retired;
             pins = carried.pins;
             pinned = λ told name named. let held = may.sound.held told in next_same told held.0 (record { remembers = held.1; running = held.2 may.runs }) name (inl named);
           }

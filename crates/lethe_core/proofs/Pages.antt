@@ -42,6 +42,7 @@ use Rattle.lethe_core.specs.declared.holding.Core.{Core}
 use Rattle.lethe_core.proofs.Beside.{beside_stays, names_beside_at}
 use Rattle.lethe_core.proofs.Hindered.{hindered_keeps}
 use Rattle.lethe_core.proofs.Paged.{page_cited}
+use Rattle.lethe_core.proofs.Retired.{retired_same}
 use Rattle.lethe_core.proofs.Standing.{encoded_moments, next_stands_now, stands_for, stands_holds}
 use Rattle.lethe_core.proofs.Timely.{timely_kept}
 
@@ -252,7 +253,9 @@ module _ (Tells : Type 0) (old : View) (flying : Flying) (is : old.flight ≡ So
           (λ name there. inl (there, others_stay told name (retired_unwritten told name there))));
       any_moment = λ told. kept_moments Tells old sound disk runs (λ s holds. goes told s (may_write told s holds));
       numbers = λ told. let two = calls told in omega (arith, two);
+      drawn = omega arith;
       faults = rose;
+      retired = retired_same old.pins.pins old.retired old.retired refl;
       pins = refl;
       pinned = λ told. let held = held_now Tells old sound told runs in written_kept told held.0 held.1;
     }

@@ -152,7 +152,9 @@ module _ (Tells : Type 0) (old : View) (sound : IsSound Tells old) (runs : old.s
             (timely_kept config.threshold h old.pins.pins old.retired retired old.disk.directory disk.directory (kept_as_was told) (stands.timely runs) (λ name there. inl (was name there, retired_as_was told name there)));
         any_moment = λ told. kept_moments Tells old sound disk runs (moments told);
         numbers = λ told. let held = held_now Tells old sound told runs in let on = (moments told held.0 held.1).later in omega (arith, on);
+        drawn = omega arith;
         faults = rose;
+        retired = λ name there. inl (was name there);
         pins = refl;
         pinned = kept_as_was;
       }
@@ -195,7 +197,9 @@ grounded_keeps Tells old new why at stopped is = record {
   stands = λ told config h stands caller call. grounded_stands config (behind h caller (Serves call) why) new at stopped (is.stands told config h stands caller call);
   any_moment = is.any_moment;
   numbers = is.numbers;
+  drawn = is.drawn;
   faults = is.faults;
+  retired = is.retired;
   pins = is.pins;
   pinned = is.pinned;
 }

@@ -225,6 +225,7 @@ impl<D: Disk> Core<D> {
         requires from { IsStepFrom (segments_for self.old.state.frozen) self.old.state made.headers.items made.step }
         requires merges { D.tells → (s : Stored) → Holds (view_of self.old) s → (task : PlainTask) × (t : Stored) × MayMerge (view_of self.old) s task t made
             × ((config : Fields) (h : History) → StandsNow config h (view_of self.old) → IsCounted task) }
+        requires named { AreNamed (view_of self.old).pins.pins made.left.items }
         ensures keeps { Keeps D.tells (view_of self.old) (view_of self.new) (result_err result) }
         ensures undone { IfErr result (IsUndone D.tells (view_of self.old) (view_of self.new)) }
         ensures done { D.tells → (s : Stored) (task : PlainTask) (t : Stored) → Holds (view_of self.old) s → MayMerge (view_of self.old) s task t made

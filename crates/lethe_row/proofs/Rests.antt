@@ -8,7 +8,6 @@ use Rattle.lethe_base.specs.declared.call.Call.{Call}
 use Rattle.lethe_base.specs.declared.config.Fields.{Fields}
 use Rattle.lethe_base.specs.declared.name.Name.{Name}
 use Rattle.lethe_base.specs.declared.pending.Pending.{Pending}
-use Rattle.lethe_base.specs.Shapes.{earlier}
 use Rattle.lethe_disk.specs.Directory.{Directory, SameBut, content, object}
 use Rattle.lethe_disk.specs.Disk.{Image, IsSynced, Seen}
 use Rattle.lethe_disk.specs.Goes.{Goes}
@@ -35,9 +34,7 @@ use Rattle.lethe_stored.proofs.Numbers.{next_of}
 use Rattle.lethe_advance.proofs.Stayed.{came_now}
 use Rattle.lethe_stored.proofs.Steps.{active_changed}
 use Rattle.lethe_stored.proofs.Unique.{one_stored}
-use Rattle.lethe_follows.specs.Young.{time_of}
-use Rattle.lethe_state.specs.Firsts.{firsts_with}
-use Rattle.lethe_state.specs.Records.{Enters, IsLike, IsNext, halted, pending_with}
+use Rattle.lethe_state.specs.Records.{IsLike, IsNext, halted, pending_with}
 use Rattle.lethe_state.specs.Waiting.{IsPrepared}
 use Rattle.lethe_state.specs.Writable.{IsWritable}
 use Rattle.lethe_state.specs.declared.state.State.{State}
@@ -462,23 +459,6 @@ module _ (Tells : Type 0) (rest : View) (waiting : Waiting) (sound : IsSound Tel
         }
 
 -- The record that waited counts, and the next one waits
-
-pub like_next : (next : Record) (end : ℕ) (a b c : State) → IsLike a b → IsNext next end b c → IsNext next end a c
-like_next next end a b c like is = record {
-  manifest = is.manifest ∙ like.manifest;
-  count = is.count ∙ ap (λ n. n + 1) like.count;
-  pending = is.pending ∙ ap (λ l. pending_with l next) like.pending;
-  active = subst (λ entries. Enters next entries c.active.entries) like.active is.active;
-  records = is.records ∙ ap (λ n. n + 1) like.records;
-  end_is = is.end_is;
-  oldest = is.oldest ∙ ap (λ time. earlier time (time_of next)) like.oldest;
-  firsts = is.firsts ∙ ap (λ firsts. firsts_with firsts next) like.firsts;
-  frozen = is.frozen ∙ like.frozen;
-  frozen_oldest = is.frozen_oldest ∙ like.frozen_oldest;
-  frozen_firsts = is.frozen_firsts ∙ like.frozen_firsts;
-  stopped = is.stopped ∙ like.stopped;
-  drawn = is.drawn ∙ like.next;
-}
 
 -- what lies behind the front of an object is cut off
 cut_back : (c d : Directory) (name : Name) (front back : List ℕ) (len : ℕ) → c ≡ insert d name (front ++ back) → length front ≡ len → cut c name len ≡ insert d name front

@@ -24,10 +24,10 @@ use Rattle.lethe_core.specs.Running.{Holds, IsSound}
 use Rattle.lethe_core.specs.StandsNow.{StandsNow}
 use Rattle.lethe_core.specs.View.{View, view_of}
 use Rattle.lethe_core.proofs.Hindered.{sound_halted}
-use Rattle.lethe_core.proofs.Likes.{like_stands, with_state}
+use Rattle.lethe_core.proofs.Likes.{like_next, like_stands, with_state}
 use Rattle.lethe_core.proofs.Recorded.{moved}
 use Rattle.lethe_row.specs.Rests.{IsAtRest, IsCountedIn, at_rest}
-use Rattle.lethe_row.proofs.Rests.{behind_there, ends_there, failed_there, kept_there, later_there, like_next, moments_still, moments_there, passed, passed_counted, passed_rest, rest_like, rest_still, rested_stands, sound_holds, waits_there}
+use Rattle.lethe_row.proofs.Rests.{behind_there, ends_there, failed_there, kept_there, later_there, moments_still, moments_there, passed, passed_counted, passed_rest, rest_like, rest_still, rested_stands, sound_holds, waits_there}
 use Rattle.lethe_row.proofs.waiting.pass_on.Goals as goal
 
 -- There was no memory for the next record
@@ -181,6 +181,11 @@ returns-in-Err-Failed-clause-numbers g c = λ told.
     let later = later_there g.D.Disk.tells (view_of c.args.core.now) d c.args.waiting.now is told c.prepare_behind.new.self c.prepare_behind.ensures.same c.active_segment-segment.result c.active_segment-segment.ensures c.end-gate.result c.end-gate.ensures
     (λ a. length (record_bytes a.next) + length c.deref.result.now + 3) (g.D.Disk.seen c.append_next.new.disk) (c.append_next.ensures.any_moment told) in
     subst (λ (new : View). new.state.next + view.disk.moment ≤ view.state.next + new.disk.moment) (sym (stopped_as g c)) (omega (arith, later, next))
+
+pub returns-in-Err-Failed-clause-drawn : goal.returns-in-Err-Failed-clause-drawn
+returns-in-Err-Failed-clause-drawn g c =
+    let next = c.prepare_behind.ensures.same.next in
+    subst (λ (new : View). c.args.core.now.state.next ≤ new.state.next) (sym (stopped_as g c)) (omega (arith, next))
 
 -- There was no memory to write it
 

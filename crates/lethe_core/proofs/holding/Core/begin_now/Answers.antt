@@ -1,4 +1,4 @@
-use Rattle.std.proofs.Common.{◌≡◌, ◌≤◌, ◌+◌, [], Some, length, refl, sym, ap, ◌∙◌, subst}
+use Rattle.std.proofs.Common.{◌≡◌, ◌≤◌, ◌+◌, [], Some, length, map, refl, sym, ap, ◌∙◌, subst}
 use Rattle.std.specs.Prelude.{All, IfSome, option_map}
 use Rattle.lethe_base.specs.Limits.{max_place, max_time}
 use Rattle.lethe_stored.specs.Stored.{Stored}
@@ -8,7 +8,7 @@ use Rattle.lethe_core.specs.Jobs.{IsAtWork, with_begun}
 use Rattle.lethe_core.specs.Merges.{IsBegunBy, room_choice}
 use Rattle.lethe_core.specs.Running.{Holds, IsSound}
 use Rattle.lethe_core.specs.StandsNow.{StandsNow}
-use Rattle.lethe_core.specs.View.{Face, Flying, face_of, flying_of, view_of}
+use Rattle.lethe_core.specs.View.{Face, Flying, face_of, flying_of, limited_of, view_of}
 use Rattle.lethe_core.proofs.Begun.{begun_holds, begun_sound, begun_stands, idle_holds, idle_sound, idle_stands}
 use Rattle.lethe_core.proofs.Chosen.{begun_in}
 use Rattle.lethe_core.proofs.holding.Core.begin_now.Goals as goal
@@ -53,8 +53,8 @@ returns-clause-sound g c =
     let flying : Flying = record { number = old.begun; task = task; written = [] } in
     let value : c.in_ok-shared.shared.value ≡ c.in-Some.task = c.in_ok-shared.ensures.cases ∙ c.in_ok-task-2.ensures.ok in
     let same : flying_of (record { number = c.of.result; task = c.in_ok-shared.shared; written = c.new-2.result }) ≡ flying = λ i. record { number = (c.of.ensures i).count; task = plain_task (value i); written = c.new-2.ensures i } in
-    let now : record { begun = c.more-self.result.count; rounds = c.args.self.now.begun.rounds; flight = Some (flying_of (record { number = c.of.result; task = c.in_ok-shared.shared; written = c.new-2.result })); retired = old.retired; pins = old.pins } ≡ with_begun (face_of old) task =
-    λ i. record { begun = c.more-self.ensures i; rounds = old.rounds; flight = Some (same i); retired = old.retired; pins = old.pins } in
+    let now : record { begun = c.more-self.result.count; rounds = c.args.self.now.begun.rounds; flight = Some (flying_of (record { number = c.of.result; task = c.in_ok-shared.shared; written = c.new-2.result })); made = old.pins.made; held = map limited_of old.pins.pins } ≡ with_begun (face_of old) task =
+    λ i. record { begun = c.more-self.ensures i; rounds = old.rounds; flight = Some (same i); made = old.pins.made; held = map limited_of old.pins.pins } in
     let begun : (s : Stored) → Holds old s → IsBegunIn s task = λ s holds. begun_in s task (subst (λ found. IfSome found (λ task. IsBegunBy room_choice s (plain_task task))) c.in-Some.is (c.in_ok-task.ensures.some s holds)) in
     let levels = subst (λ found. IfSome found (λ task. IsInLevels old.state.manifest.config.levels (plain_task task))) c.in-Some.is c.in_ok-task.ensures.levels in
     let upto = subst (λ found. IfSome found (λ task. applied_upto (plain_task task) ≤ max_place)) c.in-Some.is c.in_ok-task.ensures.upto in
@@ -72,8 +72,8 @@ returns-clause-stands g c = λ told config h stands.
     let flying : Flying = record { number = old.begun; task = task; written = [] } in
     let value : c.in_ok-shared.shared.value ≡ c.in-Some.task = c.in_ok-shared.ensures.cases ∙ c.in_ok-task-2.ensures.ok in
     let same : flying_of (record { number = c.of.result; task = c.in_ok-shared.shared; written = c.new-2.result }) ≡ flying = λ i. record { number = (c.of.ensures i).count; task = plain_task (value i); written = c.new-2.ensures i } in
-    let now : record { begun = c.more-self.result.count; rounds = c.args.self.now.begun.rounds; flight = Some (flying_of (record { number = c.of.result; task = c.in_ok-shared.shared; written = c.new-2.result })); retired = old.retired; pins = old.pins } ≡ with_begun (face_of old) task =
-    λ i. record { begun = c.more-self.ensures i; rounds = old.rounds; flight = Some (same i); retired = old.retired; pins = old.pins } in
+    let now : record { begun = c.more-self.result.count; rounds = c.args.self.now.begun.rounds; flight = Some (flying_of (record { number = c.of.result; task = c.in_ok-shared.shared; written = c.new-2.result })); made = old.pins.made; held = map limited_of old.pins.pins } ≡ with_begun (face_of old) task =
+    λ i. record { begun = c.more-self.ensures i; rounds = old.rounds; flight = Some (same i); made = old.pins.made; held = map limited_of old.pins.pins } in
     let begun : (s : Stored) → Holds old s → IsBegunIn s task = λ s holds. begun_in s task (subst (λ found. IfSome found (λ task. IsBegunBy room_choice s (plain_task task))) c.in-Some.is (c.in_ok-task.ensures.some s holds)) in
     subst (λ (face : Face). StandsNow config h (record old { disk = seen; faults = faults; flight = face.flight; begun = face.begun; rounds = face.rounds })) (sym now)
     (idle_stands (record old { flight = Some flying; begun = old.begun + 1 }) seen faults (c.port.ensures.idle told) config h
@@ -88,8 +88,8 @@ returns-clause-held g c = λ told s holds.
     let flying : Flying = record { number = old.begun; task = task; written = [] } in
     let value : c.in_ok-shared.shared.value ≡ c.in-Some.task = c.in_ok-shared.ensures.cases ∙ c.in_ok-task-2.ensures.ok in
     let same : flying_of (record { number = c.of.result; task = c.in_ok-shared.shared; written = c.new-2.result }) ≡ flying = λ i. record { number = (c.of.ensures i).count; task = plain_task (value i); written = c.new-2.ensures i } in
-    let now : record { begun = c.more-self.result.count; rounds = c.args.self.now.begun.rounds; flight = Some (flying_of (record { number = c.of.result; task = c.in_ok-shared.shared; written = c.new-2.result })); retired = old.retired; pins = old.pins } ≡ with_begun (face_of old) task =
-    λ i. record { begun = c.more-self.ensures i; rounds = old.rounds; flight = Some (same i); retired = old.retired; pins = old.pins } in
+    let now : record { begun = c.more-self.result.count; rounds = c.args.self.now.begun.rounds; flight = Some (flying_of (record { number = c.of.result; task = c.in_ok-shared.shared; written = c.new-2.result })); made = old.pins.made; held = map limited_of old.pins.pins } ≡ with_begun (face_of old) task =
+    λ i. record { begun = c.more-self.ensures i; rounds = old.rounds; flight = Some (same i); made = old.pins.made; held = map limited_of old.pins.pins } in
     let begun : (s : Stored) → Holds old s → IsBegunIn s task = λ s holds. begun_in s task (subst (λ found. IfSome found (λ task. IsBegunBy room_choice s (plain_task task))) c.in-Some.is (c.in_ok-task.ensures.some s holds)) in
     subst (λ (face : Face). Holds (record old { disk = seen; faults = faults; flight = face.flight; begun = face.begun; rounds = face.rounds }) s) (sym now)
     (idle_holds (record old { flight = Some flying; begun = old.begun + 1 }) seen faults (c.port.ensures.idle told) s
@@ -107,9 +107,9 @@ returns-clause-works g c = subst (IsAtWork g.D.Disk.tells _) (sym c.begun.ensure
 pub returns-clause-face : goal.returns-clause-face
 returns-clause-face g c =
     let face : Face = with_begun (face_of (view_of c.args.self.now)) (plain_task c.in_ok-task-2.task.value) in
-    let is : record { begun = c.more-self.result.count; rounds = c.args.self.now.begun.rounds; flight = Some (flying_of (record { number = c.of.result; task = c.in_ok-shared.shared; written = c.new-2.result })); retired = c.args.self.now.retired.items; pins = c.args.self.now.pins } ≡ face = λ i. record {
-      retired = c.args.self.now.retired.items;
-      pins = c.args.self.now.pins;
+    let is : record { begun = c.more-self.result.count; rounds = c.args.self.now.begun.rounds; flight = Some (flying_of (record { number = c.of.result; task = c.in_ok-shared.shared; written = c.new-2.result })); made = c.args.self.now.pins.made; held = map limited_of c.args.self.now.pins.pins } ≡ face = λ i. record {
+      made = c.args.self.now.pins.made;
+      held = map limited_of c.args.self.now.pins.pins;
       begun = c.more-self.ensures i;
       rounds = c.args.self.now.begun.rounds;
       flight = Some (record { number = (c.of.ensures i).count; task = plain_task (c.in_ok-shared.ensures.cases i); written = c.new-2.ensures i });

@@ -58,7 +58,7 @@ returns-in_err-unfreeze-clause-partly g c =
     let refusal : c.from_residual.result ≡ Err why = search rules in
     subst (λ (r : Result (Unit {0}) Refused). IfErr r (IsDoneInPart g.D.Disk.tells (IsRoomBegun (view_of old).flight) (view_of old) (view_of new))) (sym refusal)
     (λ none told s holds.
-    (s, inl refl, before_holds g.D.Disk.tells told (view_of old) (view_of new) s (jobs_same old new c.unfreeze.ensures.begun c.unfreeze.ensures.flight (λ i. (c.unfreeze.ensures.retired i).items) c.unfreeze.ensures.keeps.pins) (c.in_err-unfreeze.ensures.undone none) holds))
+    (s, inl refl, before_holds g.D.Disk.tells told (view_of old) (view_of new) s (jobs_same old new c.unfreeze.ensures.begun c.unfreeze.ensures.flight c.unfreeze.ensures.keeps.pins) c.unfreeze.ensures.keeps.pins (c.in_err-unfreeze.ensures.undone none) holds))
 
 pub returns-in_err-unfreeze-clause-why : goal.returns-in_err-unfreeze-clause-why
 returns-in_err-unfreeze-clause-why g c =
@@ -95,7 +95,7 @@ returns-in_err-freeze_now-clause-partly g c =
     let middle = c.in_ok-unfreeze.ensures.done told s holds in (
       middle.0,
       inr (full, record { middle = middle.0; unfrozen = middle.1; rest = inl refl }),
-      before_holds g.D.Disk.tells told (view_of mid) (view_of new) middle.0 (jobs_same mid new c.freeze_now.ensures.begun c.freeze_now.ensures.flight (λ i. (c.freeze_now.ensures.retired i).items) c.freeze_now.ensures.keeps.pins) (c.in_err-freeze_now.ensures.undone none) middle.2,
+      before_holds g.D.Disk.tells told (view_of mid) (view_of new) middle.0 (jobs_same mid new c.freeze_now.ensures.begun c.freeze_now.ensures.flight c.freeze_now.ensures.keeps.pins) c.freeze_now.ensures.keeps.pins (c.in_err-freeze_now.ensures.undone none) middle.2,
     ))
 
 pub returns-in_err-freeze_now-clause-why : goal.returns-in_err-freeze_now-clause-why

@@ -90,8 +90,8 @@ returns-in-Err-clause-partly g c = λ none told s holds.
     let why = c.in-Err.why in
     let earlier = c.port_faults-earlier.result in
     let not : failure_of why ≡ None = since_failed earlier why (ap failure_of (sym c.told_since.ensures) ∙ none) in
-    let same = jobs_same c.loop.self c.merge_next.new.self c.merge_next.ensures.begun (c.merge_next.ensures.free ∙ sym c.loop.invariant.free) (c.in-Err.ensures.undone not).retired c.merge_next.ensures.keeps.pins in
-    (some.0, some.1, before_holds g.D.Disk.tells told mid new some.0 same (c.in-Err.ensures.undone not) some.2)
+    let same = jobs_same c.loop.self c.merge_next.new.self c.merge_next.ensures.begun (c.merge_next.ensures.free ∙ sym c.loop.invariant.free) c.merge_next.ensures.keeps.pins in
+    (some.0, some.1, before_holds g.D.Disk.tells told mid new some.0 same c.merge_next.ensures.keeps.pins (c.in-Err.ensures.undone not) some.2)
 
 pub returns-in-Err-clause-why : goal.returns-in-Err-clause-why
 returns-in-Err-clause-why g c =

@@ -88,6 +88,6 @@ returns-clause-keeps g c =
     let same : g.D.Disk.tells → (s : Stored) (task : PlainTask) (t : Stored) → Holds old s → MayMerge old s task t made → AreKept old.pins.pins old.disk.directory mid.disk.directory = λ told s task t holds may.
     merged_same old mid.disk mid.faults mid.levels mid.begun mid.rounds made s t task holds may (c.carry_out.ensures.stays told s t may.left holds.running may.step_is) in
     subst (P c.install.new.self) (sym c.carry_out.ensures.pins) (subst (λ state. P state old.pins) (sym state)
-    (λ behind. merge_keeps old mid.disk mid.faults mid.levels mid.begun mid.rounds made g.D.Disk.tells c.args.before c.requires.may c.requires.from c.requires.merges behind same c.carry_out.ensures.levels moments
+    (λ behind. merge_keeps old mid.disk mid.faults mid.levels mid.begun mid.rounds made g.D.Disk.tells c.args.before c.requires.may c.requires.from c.requires.merges behind same c.requires.named c.carry_out.ensures.levels moments
     c.in_ok-carry_out.ensures.calls c.carry_out.ensures.faults))
     (returns-clause-done g c)

@@ -20,7 +20,7 @@ use Rattle.lethe_core.specs.Running.{Holds, IsSound}
 use Rattle.lethe_core.specs.StandsNow.{StandsNow}
 use Rattle.lethe_core.specs.View.{loose_in, names_beside, view_of}
 use Rattle.lethe_core.proofs.Hindered.{drawn_on, flies_on, sound_halted}
-use Rattle.lethe_core.proofs.Likes.{like_holds, like_small, like_sound, like_stands, next_behind, next_small, with_state}
+use Rattle.lethe_core.proofs.Likes.{like_holds, like_next, like_small, like_sound, like_stands, next_small, with_state}
 use Rattle.lethe_core.proofs.Recorded.{beside_segment, failed_stands, holds_longer, inserted, moments, moved, ready, record_kept, record_timely, untouched_moments}
 use Rattle.lethe_core.proofs.Standing.{moments_or, open_stands, sound_back, stands_back, stands_for, stands_holds, stands_moments}
 use Rattle.lethe_core.proofs.holding.Core.record.Goals as goal
@@ -101,7 +101,7 @@ returns-in-Ok-append-clause-sound g c =
 
 pub returns-in-Ok-append-clause-entered : goal.returns-in-Ok-append-clause-entered
 returns-in-Ok-append-clause-entered g c =
-    (c.in-Ok.field-0.end, next_behind c.args.next c.in-Ok.field-0.end c.args.self.now.state c.prepare.new.self c.enter.new.self c.prepare.ensures.same c.enter.ensures.is)
+    (c.in-Ok.field-0.end, like_next c.args.next c.in-Ok.field-0.end c.args.self.now.state c.prepare.new.self c.enter.new.self c.prepare.ensures.same c.enter.ensures.is)
 
 pub returns-in-Ok-append-clause-pinned : goal.returns-in-Ok-append-clause-pinned
 returns-in-Ok-append-clause-pinned g c = λ told.
