@@ -1,6 +1,6 @@
 -- What a call answers, by how it went: nothing was done, a step was, or a change was tried.
 use Rattle.std.proofs.Common.{◌≡◌, ◌≤◌, inl, ◌+◌, ℕ, List, Option, Some, None, Result, Ok, Err, refl, sym, ap, ◌∙◌, subst, arith}
-use Rattle.std.specs.Prelude.{IfErr, IfSome, IsSome, IsTrue}
+use Rattle.std.specs.Prelude.{Contains, IfErr, IfSome, IsSome, IsTrue}
 use Rattle.std.specs.Result.{result_err}
 use Rattle.lethe_base.specs.History.{History}
 use Rattle.lethe_base.specs.declared.call.Call.{Call}
@@ -20,7 +20,7 @@ use Rattle.lethe_pins.specs.Held.{Held, is_named}
 use Rattle.lethe_core.specs.Asked.{Asked, Makes, Serves, behind, counted, failure_of, stopped_by, written_by}
 use Rattle.lethe_core.specs.Keeps.{Keeps}
 use Rattle.lethe_core.specs.Merges.{IsRoomBegun, IsRoomMadeBy, Outcome}
-use Rattle.lethe_core.specs.Pinned.{AreKept}
+use Rattle.lethe_core.specs.Pinned.{AreKept, AreRetiredFrom}
 use Rattle.lethe_core.specs.Reasons.{HasReason}
 use Rattle.lethe_core.specs.Running.{Holds, IsSound}
 use Rattle.lethe_core.specs.StandsNow.{StandsNow}
@@ -104,10 +104,13 @@ itself_answers Tells asked why view sound none = record {
   goes = λ told config opened h before caller. idle_goes config opened h (behind h caller asked why) view view before (same config opened h before caller) (idle_itself view);
   any_moment = λ told config h now runs caller. moments_or config h (written_by caller asked why) view.state.next view.disk view.disk (stands_moments config h view now runs sound.writable);
   numbers = λ told. omega arith;
+  drawn = omega arith;
+  later = λ told. omega arith;
   faults = omega arith;
   still = λ some. record { state = refl; levels = refl; faults = refl; disk = λ told. idle_itself view };
   refused = undone asked why;
   face_is = refl;
+  retired = λ name there. inl there;
   pinned = λ told name was now. refl;
 }
   where
@@ -131,10 +134,13 @@ idle_answers Tells why old new sound state levels retired faults idle now none =
   any_moment = λ told config h before runs caller. moments_or config h None old.state.next old.disk new.disk
       (idle_moments (λ c. IsKept config c h) old new (idle told) next (stands_moments config h new (now told config h before) (ap (λ (state : State). state.stopped) state ∙ runs) sound.writable));
   numbers = λ told. let same = (idle told).moment in omega (arith, same, next);
+  drawn = omega (arith, next);
+  later = λ told. let same = (idle told).moment in omega (arith, same);
   faults = omega (arith, faults);
   still = λ some. record { state = state; levels = levels; faults = faults; disk = idle };
   refused = undone why;
   face_is = refl;
+  retired = λ name there. inl (subst (λ names. Contains names name) retired there);
   pinned = λ told name was now. ap (λ d. object d name) (idle told).directory;
 }
   where
@@ -167,10 +173,13 @@ step_answers Tells Short why old new before runs is keeps reason undone = record
       goes_by (λ c. IsKept config c h) config opened h (behind h caller (Serves Work) why) old new stands (worked told config opened h stands caller) (keeps.any_moment told config h stands.now).goes;
   any_moment = λ told config h stands runs caller. moments_or config h None old.state.next old.disk new.disk (keeps.any_moment told config h stands);
   numbers = keeps.numbers;
+  drawn = keeps.drawn;
+  later = λ told. let numbers = keeps.numbers told in let drawn = keeps.drawn in omega (arith, numbers, drawn);
   faults = keeps.faults;
   still = λ some. absurd (runs_on old.state.stopped runs some);
   refused = undone;
   face_is = refl;
+  retired = keeps.retired;
   pinned = λ told name was now. keeps.pinned told name was;
 }
   where
@@ -186,9 +195,9 @@ module _ (Tells : Type 0) (call : Call) (works : call ≡ Work → ⊥) (old : V
   pub made_answers : (new : View) (why : Option Refused) → IsSound Tells new → new.state.count ≡ counted (Makes call) why old.state.count → new.state.stopped ≡ stopped_by why old.state.stopped
       → (Tells → (config : Fields) (h : History) (caller : ℕ) → StandsNow config h old → StandsNow config (behind h caller (Makes call) why) new)
       → (Tells → (config : Fields) (h : History) (caller : ℕ) → StandsNow config h old → GoesFrom old.state.next (IsKeptOr config h (written_by caller (Makes call) why)) old.disk new.disk)
-      → (Tells → new.state.next + old.disk.moment ≤ old.state.next + new.disk.moment) → old.faults ≤ new.faults → IfSome why (IsTold old.faults new.faults) → IfSome why (IsRefused Tells (Makes call) old new)
-      → (Tells → AreKept old.pins.pins old.disk.directory new.disk.directory) → Answers Tells (Makes call) why (face_of new) old new
-  made_answers new why sound count stopped stands moments numbers faults reason refused kept = record {
+      → (Tells → new.state.next + old.disk.moment ≤ old.state.next + new.disk.moment) → old.state.next ≤ new.state.next → old.faults ≤ new.faults → IfSome why (IsTold old.faults new.faults)
+      → IfSome why (IsRefused Tells (Makes call) old new) → AreRetiredFrom old.pins.pins old.retired new.retired → (Tells → AreKept old.pins.pins old.disk.directory new.disk.directory) → Answers Tells (Makes call) why (face_of new) old new
+  made_answers new why sound count stopped stands moments numbers drawn faults reason refused retired kept = record {
     sound = sound;
     count = count;
     stopped = stopped;
@@ -197,10 +206,13 @@ module _ (Tells : Type 0) (call : Call) (works : call ≡ Work → ⊥) (old : V
         goes_by (IsKeptOr config h (written_by caller (Makes call) why)) config opened h (behind h caller (Makes call) why) old new before (answered told config opened h before caller) (moments told config h caller before.now).goes;
     any_moment = λ told config h before runs caller. moments told config h caller before;
     numbers = numbers;
+    drawn = drawn;
+    later = λ told. let paced = numbers told in omega (arith, paced, drawn);
     faults = faults;
     still = λ some. absurd (runs_on old.state.stopped runs some);
     refused = refused;
     face_is = refl;
+    retired = retired;
     pinned = λ told name was now. kept told name was;
   }
     where
@@ -213,22 +225,22 @@ module _ (Tells : Type 0) (call : Call) (works : call ≡ Work → ⊥) (old : V
       → IsDoneInPart Tells (IsBegun call old.flight) old new why → Answers Tells (Makes call) (Some why) (face_of new) old new
   unroomed_answers PortsFail first last new why keeps reason full partly =
       made_answers new (Some why) keeps.sound keeps.count keeps.stopped (λ told config h caller before. keeps.stands told config h before caller call)
-      (λ told config h caller before. moments_or config h (written_by caller (Makes call) (Some why)) old.state.next old.disk new.disk (keeps.any_moment told config h before)) keeps.numbers keeps.faults
-      (changes_told Tells PortsFail old new first last why reason) ((λ ready. absurd (full ready)), partly) keeps.pinned
+      (λ told config h caller before. moments_or config h (written_by caller (Makes call) (Some why)) old.state.next old.disk new.disk (keeps.any_moment told config h before)) keeps.numbers keeps.drawn keeps.faults
+      (changes_told Tells PortsFail old new first last why reason) ((λ ready. absurd (full ready)), partly) keeps.retired keeps.pinned
 
   -- room was made, and then the record was appended, or wasn't
   module _ (mid new : View) (why : Option Refused) (room : Keeps Tells old mid None) (made : Tells → (s : Stored) → Holds old s → (t : Stored) × (outcomes : List Outcome) × IsRoomMadeBy old.flight s outcomes t × Holds mid t)
       (begun : (s t : Stored) → IsRoomBegun old.flight s t → IsBegun call old.flight s t) (same : IsReadyFor call old.state → mid ≡ old) (face : face_of new ≡ face_of mid) (sound : IsSound Tells new)
       (count : new.state.count ≡ counted (Makes call) why mid.state.count) (stopped : new.state.stopped ≡ stopped_by why mid.state.stopped)
-      (reason : IfSome why (HasReason ⊥ mid.state old.faults new.faults)) (undone : IfSome why (IsUndone Tells mid new)) (numbers : Tells → new.state.next + mid.disk.moment ≤ mid.state.next + new.disk.moment) (faults : mid.faults ≤ new.faults)
-      (kept : Tells → AreKept mid.pins.pins mid.disk.directory new.disk.directory) where
+      (reason : IfSome why (HasReason ⊥ mid.state old.faults new.faults)) (undone : IfSome why (IsUndone Tells mid new)) (numbers : Tells → new.state.next + mid.disk.moment ≤ mid.state.next + new.disk.moment) (drawn : mid.state.next ≤ new.state.next)
+      (faults : mid.faults ≤ new.faults) (retired : new.retired ≡ mid.retired) (pins : new.pins ≡ mid.pins) (kept : Tells → AreKept mid.pins.pins mid.disk.directory new.disk.directory) where
     recorded_refused : (why : Option Refused) → IfSome why (IsUndone Tells mid new) → IfSome why (IsRefused Tells (Makes call) old new)
     recorded_refused None undone = tt
     recorded_refused (Some why) undone = (
       (λ ready. subst (λ view. IsUndone Tells view new why) (same ready) undone),
       λ none told s holds.
           let all = made told s holds in
-          (all.0, begun s all.0 (room_begun old.flight s all.1 all.0 all.2), before_holds Tells told mid new all.0 face (undone none) all.3),
+          (all.0, begun s all.0 (room_begun old.flight s all.1 all.0 all.2), before_holds Tells told mid new all.0 face pins (undone none) all.3),
     )
 
     pub recorded_answers : (Tells → (config : Fields) (h : History) (caller : ℕ) → StandsNow config h mid → StandsNow config (behind h caller (Makes call) why) new)
@@ -236,13 +248,19 @@ module _ (Tells : Type 0) (call : Call) (works : call ≡ Work → ⊥) (old : V
         → Answers Tells (Makes call) why (face_of mid) old new
     recorded_answers stands moments = subst (λ at. Answers Tells (Makes call) why at old new) face
         (made_answers new why sound (count ∙ ap (counted (Makes call) why) room.count) (stopped ∙ ap (stopped_by why) room.stopped) (λ told config h caller before. stands told config h caller (behind_room told config h before)) whole
-        drawn rose (reasons_told ⊥ mid.state old.faults new.faults why reason) (recorded_refused why undone) pinned)
+        paced risen rose (reasons_told ⊥ mid.state old.faults new.faults why reason) (recorded_refused why undone) left pinned)
       where
-        drawn : Tells → new.state.next + old.disk.moment ≤ old.state.next + new.disk.moment
-        drawn told = let first = room.numbers told in let then = numbers told in omega (arith, first, then)
+        paced : Tells → new.state.next + old.disk.moment ≤ old.state.next + new.disk.moment
+        paced told = let first = room.numbers told in let then = numbers told in omega (arith, first, then)
+
+        risen : old.state.next ≤ new.state.next
+        risen = let first = room.drawn in omega (arith, first, drawn)
 
         rose : old.faults ≤ new.faults
         rose = let first = room.faults in omega (arith, first, faults)
+
+        left : AreRetiredFrom old.pins.pins old.retired new.retired
+        left name there = room.retired name (subst (λ names. Contains names name) retired there)
 
         -- the store behind the room that was made
         behind_room : Tells → (config : Fields) (h : History) → StandsNow config h old → StandsNow config h mid

@@ -1,6 +1,7 @@
 -- What a certificate says stays so, and a tick's new one is true.
-use Rattle.std.proofs.Common.{◌≡◌, ◌≤◌, inl, inr, ℕ, zero, suc, ◌+◌, ◌-◌, ◌<◌, Bool, false, true, if◌then◌else◌, List, [], ◌∷◌, ◌++◌, length, take, get_or, Option, Some, None, refl, sym, ap, ◌∙◌, subst, append-nil, arith}
+use Rattle.std.proofs.Common.{◌≡◌, ◌≤◌, inl, inr, ℕ, zero, suc, ◌+◌, ◌-◌, ◌<◌, Bool, false, true, if◌then◌else◌, List, [], ◌∷◌, ◌++◌, length, take, get_or, Option, Some, None, Result, Err, refl, sym, ap, ◌∙◌, subst, append-nil, arith}
 use Rattle.std.specs.Prelude.{All, IfSome, IsSomeAnd, nat_le, option_map, option_to_list, unwrap_or}
+use Rattle.std.specs.Result.{result_err}
 use Rattle.std.proofs.Math.Seq.{take-append_seam}
 use Rattle.std.proofs.lemmas.List.{length-append, take_all, take_more}
 use Rattle.std.proofs.lemmas.List.Elements.{All-append, All-cons, All-nil, All-weaker}
@@ -31,11 +32,16 @@ use Rattle.lethe_core.specs.Asked.{Asked, behind}
 use Rattle.lethe_core.specs.StandsNow.{StandsNow}
 use Rattle.lethe_core.specs.View.{Face, View}
 use Rattle.lethe_core.proofs.Standing.{stands_done, stands_for, stands_holds, stands_moments}
+use Rattle.lethe_row.specs.Along.{row_behind}
+use Rattle.lethe_row.specs.declared.asking.Asked as row
 use Rattle.lethe_tick.specs.Certified.{IsCertificateAt, certificate_of, certificate_with}
 use Rattle.lethe_engine.specs.Answers.{Answers}
 use Rattle.lethe_engine.specs.Certificates.{HasCommitted, HoldsNoneErasedBy, IsTrueCertificate}
 use Rattle.lethe_engine.specs.Opening.{IsResumed}
+use Rattle.lethe_engine.specs.Rows.{AnswersRow}
 use Rattle.lethe_engine.specs.StandsFor.{HasCounts, IsCertified, IsCertifiedBy, IsKeptFor, Opened, StandsFor, StandsSince, opened_at}
+use Rattle.lethe_engine.specs.Ticks.{answered_by}
+use Rattle.lethe_engine.specs.declared.ticking.Ticked.{Ticked}
 use Rattle.lethe_engine.proofs.Clean.{now_clean}
 use Rattle.lethe_engine.proofs.Prefixes.{prefix_itself}
 
@@ -130,6 +136,13 @@ pub call_certified : (Tells : Type 0) (asked : Asked) (why : Option Refused) (fa
     (answered : List Certificate) → StandsFor config opened h old answered → StandsFor config opened (behind h caller asked why) new answered
 call_certified Tells asked why face old new answers told config opened h caller answered stands =
     still_all_certified config opened h (behind h caller asked why) old new (λ start since. answers.stands told config start h since caller)
+    (λ moment d early left. ((answers.goes told config opened h stands.since caller).past moment d early).0 left) answered stands
+
+-- so does a row of changes
+pub row_certified : (Tells : Type 0) (asked left : List row.Asked) (done : ℕ) (refused : Option Refused) (old new : View) (answers : AnswersRow Tells asked left done refused old new) → Tells → (config : Fields) (opened : Opened)
+    (h : History) (caller : ℕ) (answered : List Certificate) → StandsFor config opened h old answered → StandsFor config opened (row_behind h caller answers.row.made answers.row.failed) new answered
+row_certified Tells asked left done refused old new answers told config opened h caller answered stands =
+    still_all_certified config opened h (row_behind h caller answers.row.made answers.row.failed) old new (λ start since. answers.stands told config start h since caller)
     (λ moment d early left. ((answers.goes told config opened h stands.since caller).past moment d early).0 left) answered stands
 
 -- A tick's certificate
@@ -243,12 +256,17 @@ module _ (config : Fields) (opened : Opened) (h : History) (caller to : ℕ) (ne
       (h, caller, now_certified config opened h caller to new stands runs writable synced clock count certificate (sym is) at from) (All-nil (IsCertified config opened (with_done h caller (Tick to)) new))
 
   pub with_answer : (added : History) × (h ≡ opened.history ++ added) → (answer : Option Certificate) → answer ≡ certificate_of new.state.manifest to → IsCertificateAt new.state.manifest.config.threshold to answer
-      → (before behind : List Certificate) → behind ≡ before ++ option_to_list answer → StandsFor config opened (with_done h caller (Tick to)) new before → StandsFor config opened (with_done h caller (Tick to)) new behind
-  with_answer from answer is at before behind added stood = record {
+      → (answered : List Certificate) → StandsFor config opened (with_done h caller (Tick to)) new answered → StandsFor config opened (with_done h caller (Tick to)) new (answered ++ option_to_list answer)
+  with_answer from answer is at answered stood = record {
     since = stood.since;
-    certified = subst (All (IsCertified config opened (with_done h caller (Tick to)) new)) (sym added)
-        (All-append (IsCertified config opened (with_done h caller (Tick to)) new) before (option_to_list answer) stood.certified (answer_certified from answer is at));
+    certified = All-append (IsCertified config opened (with_done h caller (Tick to)) new) answered (option_to_list answer) stood.certified (answer_certified from answer is at);
   }
+
+-- a tick that was refused answered none
+pub refused_certified : (config : Fields) (opened : Opened) (h : History) (caller : ℕ) (asked : Asked) (new : View) (result : Result Ticked Refused) (why : Refused) → result ≡ Err why → (answered : List Certificate)
+    → StandsFor config opened (behind h caller asked (result_err result)) new answered → StandsFor config opened (behind h caller asked (result_err result)) new (answered ++ answered_by result)
+refused_certified config opened h caller asked new result why refusal answered =
+    subst (StandsFor config opened (behind h caller asked (result_err result)) new) (sym (append-nil answered) ∙ ap (λ r. answered ++ answered_by r) (sym refusal))
 
 -- Behind a crash
 

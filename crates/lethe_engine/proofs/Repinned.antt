@@ -1,6 +1,6 @@
 -- A pin was made or let go: all but the pins is as it was.
 use Rattle.std.proofs.Common.{◌≡◌, ◌<◌, ◌≤◌, ◌⊎◌, inl, inr, ℕ, ◌+◌, Option, Result, Ok, Err, sym, ap, subst, arith}
-use Rattle.std.specs.Prelude.{IfErr}
+use Rattle.std.specs.Prelude.{IfErr, IfOk, OnErr}
 use Rattle.std.specs.Result.{result_err}
 use Rattle.lethe_base.specs.History.{History}
 use Rattle.lethe_base.specs.Limits.{max_place}
@@ -11,22 +11,34 @@ use Rattle.lethe_base.specs.declared.refused.Refused.TheVariants.{Exhausted, NoM
 use Rattle.lethe_bound.specs.Limits.{IsLimit}
 use Rattle.lethe_bound.proofs.Bounds.{limit_above}
 use Rattle.lethe_disk.specs.Disk.{IsIdle, Seen}
+use Rattle.lethe_disk.specs.declared.disk.Disk.{Ghosts}
+use Rattle.lethe_snapshot.specs.declared.snapshot.Snapshot.{Snapshot}
 use Rattle.lethe_manifest.specs.declared.manifest.Manifest.{Manifest}
 use Rattle.lethe_stored.specs.Left.{without_failed}
 use Rattle.lethe_stored.specs.Stored.{layout_of}
 use Rattle.lethe_core.specs.Asked.{Serves, failure_of}
+use Rattle.lethe_core.specs.Pins.{IsPinOf}
 use Rattle.lethe_core.specs.Running.{IsSound}
 use Rattle.lethe_core.specs.StandsNow.{StandsNow}
-use Rattle.lethe_core.specs.View.{View, face_of}
+use Rattle.lethe_core.specs.View.{View, face_of, view_of}
+use Rattle.lethe_core.specs.declared.holding.Core.{Core}
+use Rattle.lethe_core.proofs.Faces.{pinned_face_is}
 use Rattle.lethe_engine.specs.Answers.{Answers}
+use Rattle.lethe_engine.specs.Pins.{pinned_face}
 use Rattle.lethe_engine.proofs.Calls.{IsNoChange, idle_answers, idle_itself, refused_is_none, served_is_none}
 
 pub repinned_answers : (Tells : Type 0) (why : Option Refused) (old new : View) → IsSound Tells new → new ≡ record old { pins = new.pins } → (Tells → (config : Fields) (h : History) → StandsNow config h old → StandsNow config h new)
-    → IsNoChange (Serves Work) why → Answers Tells (Serves Work) why (record (face_of old) { pins = new.pins }) old new
+    → IsNoChange (Serves Work) why → Answers Tells (Serves Work) why (face_of new) old new
 repinned_answers Tells why old new sound same now none =
-    subst (λ face. Answers Tells (Serves Work) why face old new) (ap face_of same)
-    (idle_answers Tells why old new sound (ap (λ (v : View). v.state) same) (ap (λ (v : View). v.levels) same) (ap (λ (v : View). v.retired) same) (ap (λ (v : View). v.faults) same)
-    (λ told. subst (λ (disk : Seen). IsIdle old.disk disk) (sym (ap (λ (v : View). v.disk) same)) (idle_itself old)) now none)
+    idle_answers Tells why old new sound (ap (λ (v : View). v.state) same) (ap (λ (v : View). v.levels) same) (ap (λ (v : View). v.retired) same) (ap (λ (v : View). v.faults) same)
+    (λ told. subst (λ (disk : Seen). IsIdle old.disk disk) (sym (ap (λ (v : View). v.disk) same)) (idle_itself old)) now none
+
+-- the pins behind a call that makes one
+pub pinned_by : {D Page Port : Type 0} {kind : Ghosts D Page Port} (old new : Core D Page Port kind) (result : Result (Snapshot D Page Port kind) Refused) → new ≡ record old { pins = new.pins }
+    → IfOk result (λ snapshot. snapshot.number ≡ old.pins.made + 1) → IfOk result (λ snapshot. IsPinOf (view_of old) (view_of new) snapshot.number snapshot.limit) → OnErr result (new ≡ old)
+    → face_of (view_of new) ≡ pinned_face (face_of (view_of old)) result
+pinned_by old new (Ok snapshot) same number pinned unchanged = pinned_face_is (view_of old) (view_of new) snapshot.number snapshot.limit (ap view_of same) number pinned
+pinned_by old new (Err why) same number pinned unchanged = ap (λ core. face_of (view_of core)) unchanged
 
 -- a pin that is refused is in no history, nor is one that is made
 pub pin_is_none : {T : Type 0} (result : Result T Refused) → IfErr result (λ why. (why ≡ Exhausted max_place) ⊎ (why ≡ NoMemory)) → IsNoChange (Serves Work) (result_err result)

@@ -1,5 +1,5 @@
 -- What a row of changes says of the store since it was opened.
-use Rattle.std.proofs.Common.{◌≡◌, ℕ, inl, inr, List, [], Option, Some, None, refl, sym, subst}
+use Rattle.std.proofs.Common.{◌≡◌, ℕ, inl, inr, List, [], Option, Some, None, refl, sym, subst, arith}
 use Rattle.std.specs.Prelude.{IfSome, IsSome, false, is_some, true}
 use mathlib.Core.Bool.{false≢true}
 use Rattle.lethe_base.specs.Counts.{Rose}
@@ -51,15 +51,18 @@ failure_counted old new (Some (Cancelled begun now)) rest left failed is = absur
 failure_counted old new (Some (ReadFault before after)) rest left failed is = absurd is
 failure_counted old new (Some (Damaged name)) rest left failed is = absurd is
 
-pub row_answers : (Tells : Type 0) (asked left : List Asked) (done : ℕ) (refused : Option Refused) (old new : View) → old.state.stopped ≡ None → face_of new ≡ face_of old → IsRow Tells asked left done refused old new
+pub row_answers : (Tells : Type 0) (asked left : List Asked) (done : ℕ) (refused : Option Refused) (old new : View) → old.state.stopped ≡ None → face_of new ≡ face_of old → new.retired ≡ old.retired → IsRow Tells asked left done refused old new
     → AnswersRow Tells asked left done refused old new
-row_answers Tells asked left done refused old new runs face row = record {
+row_answers Tells asked left done refused old new runs face retired row = record {
   row = row;
   stands = stands;
   goes = λ told config opened h before caller.
       goes_by (IsKeptAlong config h caller (tried row.made row.failed)) config opened h (row_behind h caller row.made row.failed) old new before (stands told config opened h before caller) (row.any_moment told config h before.now runs caller).goes;
   idle = λ stopped. absurd (false≢true (subst IsSome runs stopped));
   face_is = face;
+  retired = retired;
+  drawn = row.drawn;
+  later = λ told. let numbers = row.numbers told in let drawn = row.drawn in omega (arith, numbers, drawn);
 }
   where
     stands : Tells → (config : Fields) (opened : Opened) (h : History) → StandsSince config opened h old → (caller : ℕ) → StandsSince config opened (row_behind h caller row.made row.failed) new
@@ -74,8 +77,11 @@ stopped_answers Tells asked view sound stopped = record {
   row = idle_row Tells view asked asked sound refl (inr (inl stopped));
   stands = same;
   goes = λ told config opened h before caller. idle_goes config opened h (with_all h caller []) view view before (same told config opened h before caller) (idle_itself view);
-  idle = λ still. (refl, refl, refl, refl, refl);
+  idle = λ still. (refl, refl, refl, record { state = refl; levels = refl; faults = refl; disk = λ told. idle_itself view });
   face_is = refl;
+  retired = refl;
+  drawn = omega arith;
+  later = λ told. omega arith;
 }
   where
     same : Tells → (config : Fields) (opened : Opened) (h : History) → StandsSince config opened h view → (caller : ℕ) → StandsSince config opened (with_all h caller []) view

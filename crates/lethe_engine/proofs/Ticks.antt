@@ -1,5 +1,5 @@
 -- Ticks: the tests that come first, the round that begins, and what is gone behind one.
-use Rattle.std.proofs.Common.{◌≡◌, ◌≤◌, ◌<◌, ◌+◌, ◌⊎◌, inl, inr, ℕ, List, [], ◌∷◌, Some, None, Option, refl, sym, ap, ◌∙◌, subst, arith}
+use Rattle.std.proofs.Common.{◌≡◌, ◌≤◌, ◌<◌, ◌+◌, ◌⊎◌, inl, inr, ℕ, List, [], ◌∷◌, map, Some, None, Option, refl, sym, ap, ◌∙◌, subst, arith}
 use Rattle.std.specs.Prelude.{All, Bool, true, false, ◌&&◌, if◌then◌else◌, is_none, nat_le, nat_lt, unwrap_or}
 use Rattle.std.proofs.lemmas.List.Elements.{All-head, All-nil, All-weaker}
 use Rattle.std.proofs.lemmas.Bool.{le-leb, le-ltb, lt-leb, lt-ltb}
@@ -10,7 +10,6 @@ use Rattle.lethe_base.specs.declared.call.Call.TheVariants.{Tick, Work}
 use Rattle.lethe_base.specs.declared.call.Did.TheVariants.{Done}
 use Rattle.lethe_base.specs.declared.config.Fields.{Fields}
 use Rattle.lethe_base.specs.declared.name.Kind.TheVariants.{Page}
-use Rattle.lethe_base.specs.declared.name.Name.{Name}
 use Rattle.lethe_base.specs.declared.refused.Refused.{Refused}
 use Rattle.lethe_base.specs.declared.refused.Refused.TheVariants.{Fault, Stopped, Backwards, Pinned, NothingDue, Cancelled, Exhausted, ReadFault, NoMemory, Damaged}
 use Rattle.lethe_cover.specs.Steps.{with_done}
@@ -24,7 +23,7 @@ use Rattle.lethe_core.specs.Reasons.{HasReason, IsUnreadable}
 use Rattle.lethe_core.specs.Running.{Holds, IsRunning, IsSound}
 use Rattle.lethe_core.specs.StandsNow.{IsOpenOrStopped, StandsNow}
 use Rattle.lethe_core.specs.Steps.{IsDoneInPart}
-use Rattle.lethe_core.specs.View.{Face, View, face_of}
+use Rattle.lethe_core.specs.View.{Face, View, face_of, limited_of}
 use Rattle.lethe_core.proofs.Behind.{reason_behind}
 use Rattle.lethe_tick.specs.Ripened.{IsShortToTick}
 use Rattle.lethe_engine.specs.Gone.{HoldsNothingErased}
@@ -93,8 +92,8 @@ told_first view to number limit why first barred =
     barred.told ∙ λ i. Pinned (is i).0 (is i).1
 
 -- the jobs behind a tick, by whether it passed the tests
-abbrev face_if : View → List Name → Bool → Face
-face_if view retired passed = if passed then record { begun = view.begun; rounds = view.rounds + 1; flight = None; retired = retired; pins = view.pins } else face_of view
+abbrev face_if : View → Bool → Face
+face_if view passed = if passed then record (face_of view) { rounds = view.rounds + 1; flight = None } else face_of view
 
 module _ (view : View) (to : ℕ) where
   -- each is passed
@@ -129,14 +128,14 @@ module _ (view : View) (to : ℕ) where
   passes_not (Damaged name) is = absurd is
 
   -- a tick that may not begin leaves the jobs as they were
-  pub ticked_not : (why : Refused) → MayRefuseTick view to why → ticked_face view to view.retired ≡ face_of view
-  ticked_not why is = ap (face_if view view.retired) (passes_not why is)
+  pub ticked_not : (why : Refused) → MayRefuseTick view to why → ticked_face view to ≡ face_of view
+  ticked_not why is = ap (face_if view) (passes_not why is)
 
   -- one that begins ends a round
-  pub ticked_now : (new : View) → passes view to ≡ true → new.begun ≡ view.begun → new.rounds ≡ view.rounds + 1 → new.flight ≡ None → new.pins ≡ view.pins → face_of new ≡ ticked_face view to new.retired
+  pub ticked_now : (new : View) → passes view to ≡ true → new.begun ≡ view.begun → new.rounds ≡ view.rounds + 1 → new.flight ≡ None → new.pins ≡ view.pins → face_of new ≡ ticked_face view to
   ticked_now new all begun rounds flight pins =
-      let same : face_of new ≡ face_if view new.retired true = λ i. record { begun = begun i; rounds = rounds i; flight = flight i; retired = new.retired; pins = pins i } in
-      same ∙ sym (ap (face_if view new.retired) all)
+      let same : face_of new ≡ face_if view true = λ i. record { begun = begun i; rounds = rounds i; flight = flight i; made = (pins i).made; held = map limited_of (pins i).pins } in
+      same ∙ sym (ap (face_if view) all)
 
   -- a refusal before any work is no failure
   pub may_refuse_none : (why : Refused) → MayRefuseTick view to why → failure_of why ≡ None

@@ -1,7 +1,6 @@
 -- Ticks, as the store sees them.
 use Rattle.std.specs.Prelude.{◌≡◌, ◌≤◌, ◌<◌, ◌⊎◌, ℕ, ◌+◌, true, List, [], ◌∷◌, Some, None, Bool, ◌&&◌, is_none, nat_le, nat_lt, option_to_list, Result, Ok, Err, if◌then◌else◌}
 use Rattle.lethe_base.specs.Limits.{max_place}
-use Rattle.lethe_base.specs.declared.name.Name.{Name}
 use Rattle.lethe_base.specs.declared.refused.Refused.{Refused}
 use Rattle.lethe_base.specs.declared.refused.Refused.TheVariants.{Fault, Stopped, Backwards, Pinned, NothingDue, Cancelled, Exhausted, ReadFault, NoMemory, Damaged}
 use Rattle.lethe_cert.specs.declared.certificate.Certificate.{Certificate}

@@ -14,7 +14,8 @@ mod working;
 
 pub use engine::{Engine, OpenRefused};
 pub use laws::{
-    certificates_stay, certificates_stay_in_row, certified_is_gone, reopened_is_without_certified, standing_is_clean,
+    certificates_stay, certificates_stay_in_row, certified_is_gone, reopened_is_without_certified,
+    standing_is_clean,
 };
 pub use telling::Stat;
 pub use ticking::Ticked;

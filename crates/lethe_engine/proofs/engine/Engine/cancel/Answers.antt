@@ -1,4 +1,4 @@
-use Rattle.std.proofs.Common.{◌≡◌, ◌≤◌, Some, None, refl, sym, ◌∙◌, subst, arith}
+use Rattle.std.proofs.Common.{◌≡◌, ◌≤◌, map, Some, None, refl, sym, ◌∙◌, subst, arith}
 use Rattle.std.specs.Prelude.{option_map}
 use Rattle.std.specs.Result.{result_err}
 use Rattle.lethe_base.specs.declared.call.Call.TheVariants.{Work}
@@ -6,7 +6,7 @@ use Rattle.lethe_base.specs.declared.refused.Refused.TheVariants.{Stopped}
 use Rattle.lethe_core.specs.Asked.{Serves}
 use Rattle.lethe_core.specs.Reasons.{HasReason}
 use Rattle.lethe_core.specs.Steps.{IsUndone}
-use Rattle.lethe_core.specs.View.{face_of, flying_of, view_of}
+use Rattle.lethe_core.specs.View.{face_of, flying_of, limited_of, view_of}
 use Rattle.lethe_engine.specs.Answers.{Answers}
 use Rattle.lethe_engine.specs.Jobs.{IsPast}
 use Rattle.lethe_engine.proofs.AtWork.{forgets_now, forgets_sound}
@@ -64,8 +64,8 @@ returns-clause-answers g c =
     let runs = sym c.stopped-2.ensures ∙ c.in_default-stopped.is in
     let begun = c.cancel_now.ensures.begun in
     let free = c.cancel_now.ensures.free in
-    let retired = c.cancel_now.ensures.retired in
-    let now : face_of new ≡ record (face_of old) { flight = None } = λ i. record { begun = (begun i).jobs.count; rounds = (begun i).rounds; flight = option_map flying_of (free i); retired = (retired i).items; pins = c.cancel_now.ensures.keeps.pins i } in
+    let pins = c.cancel_now.ensures.keeps.pins in
+    let now : face_of new ≡ record (face_of old) { flight = None } = λ i. record { begun = (begun i).jobs.count; rounds = (begun i).rounds; flight = option_map flying_of (free i); made = (pins i).made; held = map limited_of (pins i).pins } in
     subst (λ face. Answers g.D.Disk.tells (Serves Work) (result_err result) face old new) (now ∙ sym (cancelled_now old c.args.job present ∙ given_up_now (face_of old) old.state runs (omega (arith, left, count))))
     (step_answers g.D.Disk.tells ⊥ (result_err result) old new c.faults-before.result runs c.faults-before.ensures c.cancel_now.ensures.keeps
     (if_refused result (HasReason ⊥ old.state c.faults-before.result new.faults) c.cancel_now.ensures.why) (if_refused result (IsUndone g.D.Disk.tells old new) c.cancel_now.ensures.undone))

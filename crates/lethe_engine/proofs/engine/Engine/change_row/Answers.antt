@@ -1,6 +1,7 @@
-use Rattle.std.proofs.Common.{◌≡◌, sym, ap, ◌∙◌}
-use Rattle.std.specs.Prelude.{is_some, option_map}
-use Rattle.lethe_core.specs.View.{View, face_of, flying_of, view_of}
+use Rattle.std.proofs.Common.{sym, ap, ◌∙◌}
+use Rattle.std.specs.Prelude.{is_some}
+use Rattle.lethe_core.specs.View.{View, view_of}
+use Rattle.lethe_core.proofs.Likes.{jobs_same}
 use Rattle.lethe_engine.proofs.RowsSince.{is_there, none_there, row_answers, stopped_answers}
 use Rattle.lethe_engine.proofs.engine.Engine.change_row.Goals as goal
 
@@ -13,12 +14,6 @@ pub returns-clause-answers : goal.returns-clause-answers
 returns-clause-answers g c =
     let old = view_of c.args.self.now.core in
     let new : View = view_of c.record_row.new.core in
-    let face : face_of new ≡ face_of old =
-    (λ i. record {
-      begun = (c.record_row.ensures.begun i).jobs.count;
-      rounds = (c.record_row.ensures.begun i).rounds;
-      flight = option_map flying_of (c.record_row.ensures.flight i);
-      retired = (c.record_row.ensures.retired i).items;
-      pins = c.record_row.ensures.pins i;
-    }) in
-    row_answers g.D.Disk.tells c.args.asked.now.items c.record_row.new.asked.items c.record_row.result.done c.record_row.result.refused old new (none_there old.state.stopped (ap is_some (sym c.stopped.ensures) ∙ sym c.is_some.ensures ∙ c.if-is_some.false)) face c.record_row.ensures.row
+    let is = c.record_row.ensures in
+    let face = jobs_same c.args.self.now.core c.record_row.new.core is.begun is.flight is.pins in
+    row_answers g.D.Disk.tells c.args.asked.now.items c.record_row.new.asked.items c.record_row.result.done c.record_row.result.refused old new (none_there old.state.stopped (ap is_some (sym c.stopped.ensures) ∙ sym c.is_some.ensures ∙ c.if-is_some.false)) face (ap (λ names. names.items) is.retired) is.row

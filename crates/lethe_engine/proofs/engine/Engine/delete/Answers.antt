@@ -14,13 +14,12 @@ use Rattle.lethe_core.specs.Reasons.{HasReason, IsShortOfRoom, IsUnreadable}
 use Rattle.lethe_core.specs.Running.{Holds}
 use Rattle.lethe_core.specs.Steps.{IsUndone}
 use Rattle.lethe_core.specs.View.{View, face_of, view_of}
-use Rattle.lethe_core.proofs.Likes.{jobs_same}
 use Rattle.lethe_core.proofs.Roomed.{sees_room}
+use Rattle.lethe_core.proofs.Likes.{jobs_same}
 use Rattle.lethe_engine.specs.Answers.{Answers}
 use Rattle.lethe_row.specs.Deletes.{IsDeleteOver}
 use Rattle.lethe_engine.specs.Refusals.{HasReasonOfChange}
 use Rattle.lethe_engine.proofs.Calls.{if_refused, itself_answers, recorded_answers, refused_is_none, unroomed_answers}
-use Rattle.lethe_engine.proofs.Faces.{jobs_with}
 use Rattle.lethe_engine.proofs.Onward.{delete_works}
 use Rattle.lethe_row.proofs.Overs.{delete_for, delete_over}
 use Rattle.lethe_engine.proofs.Reasons.{not_begun, reason_of_room}
@@ -48,8 +47,8 @@ returns-in_err-make_room-clause-answers g c =
     let full : old.state.records < old.state.manifest.config.buffer → ⊥ = λ room. absurd (let ok : false ≡ true = (c.in_err-make_room.ensures.room room).0 in cc) in
     let cause : HasReason (IsShortOfRoom g.D.Disk.tells old.state new) old.state old.faults new.faults why ⊎ IsUnreadable g.D.Disk.tells g.D.Disk.ports_fail first last why = search rules in
     let reason = reason_of_room g.D.Disk.tells g.D.Disk.ports_fail old new first last why full c.in_ok-may_change.ensures.fits.0 cause in
-    subst (λ (r : Result ℕ Refused). Answers g.D.Disk.tells (Makes Asks) (result_err r) (record (face_of old) { retired = new.retired }) old new) (sym refusal)
-    (subst (λ face. Answers g.D.Disk.tells (Makes Asks) (Some why) face old new) (jobs_with core c.make_room.new.self c.make_room.ensures.begun c.make_room.ensures.flight c.in_err-make_room.ensures.keeps.pins)
+    subst (λ (r : Result ℕ Refused). Answers g.D.Disk.tells (Makes Asks) (result_err r) (face_of old) old new) (sym refusal)
+    (subst (λ face. Answers g.D.Disk.tells (Makes Asks) (Some why) face old new) (jobs_same core c.make_room.new.self c.make_room.ensures.begun c.make_room.ensures.flight c.in_err-make_room.ensures.keeps.pins)
     (unroomed_answers g.D.Disk.tells Asks (delete_works c.args.key) old c.in_ok-may_change.ensures.fits.0 g.D.Disk.ports_fail first last new why c.in_err-make_room.ensures.keeps reason
     full c.in_err-make_room.ensures.partly))
 
@@ -78,12 +77,12 @@ returns-clause-answers g c =
     let fits = c.in_ok-may_change.ensures.fits in
     let reason = if_refused c.record.result (HasReason ⊥ mid.state old.faults new.faults) (subst (λ n. IfErr c.record.result (HasReason ⊥ mid.state n new.faults)) c.faults-before.ensures c.record.ensures.why) in
     subst (λ face. Answers g.D.Disk.tells (Makes Asks) why face old new)
-    (jobs_with core c.make_room.new.self c.make_room.ensures.begun c.make_room.ensures.flight c.in_ok-make_room.ensures.keeps.pins ∙ ap (λ names. record (face_of old) { retired = names.items }) (sym c.record.ensures.retired))
+    (jobs_same core c.make_room.new.self c.make_room.ensures.begun c.make_room.ensures.flight c.in_ok-make_room.ensures.keeps.pins)
     (recorded_answers g.D.Disk.tells Asks (delete_works c.args.key) old fits.0 mid new why c.in_ok-make_room.ensures.keeps
     (λ told s holds. let done = c.in_ok-make_room.ensures.done told s holds in (done.0, done.1, done.2, done.3)) (λ s t is. is) (λ room. ap view_of (c.in_ok-make_room.ensures.room room).1)
-    (jobs_same c.make_room.new.self c.record.new.self c.record.ensures.begun c.record.ensures.flight (ap (λ names. names.items) c.record.ensures.retired) c.record.ensures.pins) c.record.ensures.sound (c.record.ensures.count Asks) c.record.ensures.stopped reason
-    (if_refused c.record.result (IsUndone g.D.Disk.tells mid new) c.record.ensures.undone) c.record.ensures.numbers c.record.ensures.faults
-    c.record.ensures.pinned
+    (jobs_same c.make_room.new.self c.record.new.self c.record.ensures.begun c.record.ensures.flight c.record.ensures.pins) c.record.ensures.sound (c.record.ensures.count Asks) c.record.ensures.stopped reason
+    (if_refused c.record.result (IsUndone g.D.Disk.tells mid new) c.record.ensures.undone) c.record.ensures.numbers c.record.ensures.drawn c.record.ensures.faults
+    (ap (λ names. names.items) c.record.ensures.retired) c.record.ensures.pins c.record.ensures.pinned
     (λ told config h caller still. c.record.ensures.stands told config h caller Asks refl still
     (delete_for config h mid still (ready.stopped ∙ fits.0) (subst (λ n. n < max_place) (sym ready.count) fits.1) caller c.args.key (search rules) c.delete_record-next.result c.delete_record-next.ensures.is))
     (λ told config h caller still. c.record.ensures.any_moment told config h caller Asks still

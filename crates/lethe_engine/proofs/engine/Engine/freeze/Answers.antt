@@ -1,4 +1,4 @@
-use Rattle.std.proofs.Common.{rules, ◌≡◌, Some, None, Result, Err, refl, sym, ap, subst}
+use Rattle.std.proofs.Common.{rules, ◌≡◌, Some, None, Result, Err, refl, sym, subst}
 use Rattle.std.specs.Prelude.{Bool}
 use Rattle.std.specs.Result.{result_err}
 use Rattle.lethe_base.specs.declared.call.Call.TheVariants.{Work}
@@ -32,7 +32,7 @@ returns-in-Ok-clause-answers g c =
     let core = c.args.self.now.core in
     let old = view_of core in
     let new = view_of c.freeze_now.new.self in
-    subst (λ face. Answers g.D.Disk.tells (Serves Work) None face old new) (jobs_same core c.freeze_now.new.self c.freeze_now.ensures.begun c.freeze_now.ensures.flight (ap (λ names. names.items) c.freeze_now.ensures.retired) c.in-Ok.ensures.keeps.pins)
+    subst (λ face. Answers g.D.Disk.tells (Serves Work) None face old new) (jobs_same core c.freeze_now.new.self c.freeze_now.ensures.begun c.freeze_now.ensures.flight c.in-Ok.ensures.keeps.pins)
     (step_answers g.D.Disk.tells (IsShortToFreeze old.state) None old new c.faults-before.result c.in_ok-may_change.ensures.fits.0 c.faults-before.ensures c.in-Ok.ensures.keeps tt tt)
 
 pub returns-in-Err-clause-answers : goal.returns-in-Err-clause-answers
@@ -40,5 +40,5 @@ returns-in-Err-clause-answers g c =
     let core = c.args.self.now.core in
     let old = view_of core in
     let new = view_of c.freeze_now.new.self in
-    subst (λ face. Answers g.D.Disk.tells (Serves Work) (Some c.in-Err.why) face old new) (jobs_same core c.freeze_now.new.self c.freeze_now.ensures.begun c.freeze_now.ensures.flight (ap (λ names. names.items) c.freeze_now.ensures.retired) c.in-Err.ensures.keeps.pins)
+    subst (λ face. Answers g.D.Disk.tells (Serves Work) (Some c.in-Err.why) face old new) (jobs_same core c.freeze_now.new.self c.freeze_now.ensures.begun c.freeze_now.ensures.flight c.in-Err.ensures.keeps.pins)
     (step_answers g.D.Disk.tells (IsShortToFreeze old.state) (Some c.in-Err.why) old new c.faults-before.result c.in_ok-may_change.ensures.fits.0 c.faults-before.ensures c.in-Err.ensures.keeps c.in-Err.ensures.why c.in-Err.ensures.undone)

@@ -34,7 +34,7 @@ returns-in_err-check_round-clause-answers g c =
     let old = view_of c.args.self.now.core in
     let why = c.in_err-check_round.field-0.0 in
     let refusal : c.from_residual.result ≡ Err why = search rules in
-    subst (λ (r : Result (Unit {0}) Refused). Answers g.D.Disk.tells (Serves Work) (result_err r) (ended_face (face_of old) old.retired r) old old) (sym refusal)
+    subst (λ (r : Result (Unit {0}) Refused). Answers g.D.Disk.tells (Serves Work) (result_err r) (ended_face (face_of old) r) old old) (sym refusal)
     (itself_answers g.D.Disk.tells (Serves Work) (Some why) old c.requires.sound (refused_is_none (Serves Work) why (ap failure_of c.in_err-check_round.ensures.refused.0)))
 
 pub returns-in_err-may_change-clause-answers : goal.returns-in_err-may_change-clause-answers
@@ -42,7 +42,7 @@ returns-in_err-may_change-clause-answers g c =
     let old = view_of c.args.self.now.core in
     let why = c.in_err-may_change.field-0.0 in
     let refusal : c.from_residual-in_err-may_change.result ≡ Err why = search rules in
-    subst (λ (r : Result (Unit {0}) Refused). Answers g.D.Disk.tells (Serves Work) (result_err r) (ended_face (face_of old) old.retired r) old old) (sym refusal)
+    subst (λ (r : Result (Unit {0}) Refused). Answers g.D.Disk.tells (Serves Work) (result_err r) (ended_face (face_of old) r) old old) (sym refusal)
     (itself_answers g.D.Disk.tells (Serves Work) (Some why) old c.requires.sound (refused_is_none (Serves Work) why (not_begun old.state why c.in_err-may_change.ensures.refused)))
 
 some_unmapped : {A B : Type 0} (f : A → B) (o : Option A) → IsSome (option_map f o) → IsSome o

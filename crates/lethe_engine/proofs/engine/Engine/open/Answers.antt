@@ -1,10 +1,11 @@
-use Rattle.std.proofs.Common.{◌≡◌, ◌+◌, ◌++◌, None, ap, Err, sym, ◌∙◌, arith}
+use Rattle.std.proofs.Common.{◌≡◌, ◌+◌, ◌++◌, map, None, ap, Err, sym, ◌∙◌, arith}
 use Rattle.std.proofs.lemmas.List.{length-map}
 use Rattle.lethe_follows.proofs.Behind.{later_none}
 use Rattle.lethe_manifest.specs.declared.manifest.Manifest.{Manifest}
 use Rattle.lethe_stored.specs.Stored.{records_in}
 use Rattle.lethe_version.specs.Versions.{levels_of}
 use Rattle.lethe_advance.specs.Shown.{parts_by_level}
+use Rattle.lethe_core.specs.View.{limited_of}
 use Rattle.lethe_core.proofs.Beside.{none_drawn}
 use Rattle.lethe_engine.proofs.Opened.{drawn_none, held_none, opened_running, pages_none, resumed, small_fresh, untouched_by}
 use Rattle.lethe_engine.proofs.engine.Engine.open.Goals as goal
@@ -40,7 +41,7 @@ pub returns-in-Ok-opened-clause-runs : goal.returns-in-Ok-opened-clause-runs
 returns-in-Ok-opened-clause-runs g c = c.in-Ok-opened.ensures.fresh.stopped
 
 pub returns-in-Ok-opened-clause-face : goal.returns-in-Ok-opened-clause-face
-returns-in-Ok-opened-clause-face g c = λ i. record { begun = c.none.ensures.jobs i; rounds = c.none.ensures.rounds i; flight = None; retired = c.new.ensures.items i; pins = c.new-in-Ok-opened.ensures i }
+returns-in-Ok-opened-clause-face g c = λ i. record { begun = c.none.ensures.jobs i; rounds = c.none.ensures.rounds i; flight = None; made = (c.new-in-Ok-opened.ensures i).made; held = map limited_of (c.new-in-Ok-opened.ensures i).pins }
 
 pub returns-in-Ok-opened-clause-opened : goal.returns-in-Ok-opened-clause-opened
 returns-in-Ok-opened-clause-opened g c = λ tells.

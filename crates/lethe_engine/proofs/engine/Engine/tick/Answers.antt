@@ -3,14 +3,13 @@ use Rattle.std.specs.Prelude.{IfErr, option_map}
 use Rattle.std.specs.Result.{result_err}
 use Rattle.lethe_base.specs.declared.call.Call.TheVariants as call
 use Rattle.lethe_base.specs.declared.refused.Refused.{Refused}
-use Rattle.lethe_core.specs.Asked.{Makes, behind}
+use Rattle.lethe_core.specs.Asked.{Makes}
 use Rattle.lethe_core.specs.View.{View, flying_of, view_of}
 use Rattle.lethe_tick.specs.Ripened.{IsTickedInPart}
 use Rattle.lethe_engine.specs.Answers.{Answers}
-use Rattle.lethe_engine.specs.StandsFor.{StandsFor}
 use Rattle.lethe_engine.specs.Ticks.{HasReasonOfTick, ticked_face}
 use Rattle.lethe_engine.specs.declared.ticking.Ticked.{Ticked}
-use Rattle.lethe_engine.proofs.Certified.{answer_true, call_certified, with_answer}
+use Rattle.lethe_engine.proofs.Certified.{answer_true, call_certified, refused_certified, with_answer}
 use Rattle.lethe_engine.proofs.Calls.{itself_answers, made_answers, refused_is_none}
 use Rattle.lethe_engine.proofs.Onward.{sound_pages}
 use Rattle.lethe_engine.proofs.Ticks.{barred_not, barred_why, holds_in_round, may_in_round, may_refuse_none, may_refuse_reason, partly_in_round, passes_all, reason_of_tick, stands_in_round, still_runs, tick_told, tick_works, ticked_gone, ticked_not, ticked_now}
@@ -26,7 +25,7 @@ returns-in_err-may_tick-clause-answers g c =
     let refusal : c.from_residual.result ≡ Err why = search rules in
     let may = c.in_err-may_tick.ensures.refused in
     let Asks = Makes (call.Tick to) in
-    subst (λ (r : Result Ticked Refused). Answers g.D.Disk.tells Asks (result_err r) (ticked_face old to old.retired) old old) (sym refusal)
+    subst (λ (r : Result Ticked Refused). Answers g.D.Disk.tells Asks (result_err r) (ticked_face old to) old old) (sym refusal)
     (subst (λ face. Answers g.D.Disk.tells Asks (Some why) face old old) (sym (ticked_not old to why may))
     (itself_answers g.D.Disk.tells Asks (Some why) old c.requires.sound (refused_is_none Asks why (may_refuse_none old to why may))))
 
@@ -79,13 +78,13 @@ returns-in_err-certificate-clause-answers g c =
     let all = c.tick.ensures in
     let face = ticked_now old to new (passes_all old to may.0 may.1) (λ i. (all.begun i).jobs.count) (λ i. (all.begun i).rounds) (λ i. option_map flying_of (all.free i)) all.pins in
     let told = tick_told tells g.D.Disk.ports_fail to old new c.faults-before.result first last may.0.runs c.faults-before.ensures why is.why in
-    subst (λ (r : Result Ticked Refused). Answers tells (Makes (call.Tick to)) (result_err r) (ticked_face old to new.retired) old new) (sym refusal)
+    subst (λ (r : Result Ticked Refused). Answers tells (Makes (call.Tick to)) (result_err r) (ticked_face old to) old new) (sym refusal)
     (subst (λ face. Answers tells (Makes (call.Tick to)) (Some why) face old new) face
     (made_answers tells (call.Tick to) (tick_works to) old may.0.runs new (Some why) all.sound is.count is.stopped
     (λ told config h caller before. is.stands told config h (stands_in_round old (old.rounds + 1) config h before) caller)
     (λ told config h caller before. is.any_moment told config h (stands_in_round old (old.rounds + 1) config h before) caller)
-    all.numbers all.faults told
-    ((λ ready. absurd ready), partly_in_round old (old.rounds + 1) tells (IsTickedInPart to) new why is.partly) all.pinned))
+    all.numbers all.drawn all.faults told
+    ((λ ready. absurd ready), partly_in_round old (old.rounds + 1) tells (IsTickedInPart to) new why is.partly) all.retired all.pinned))
 
 pub returns-in_err-certificate-clause-why : goal.returns-in_err-certificate-clause-why
 returns-in_err-certificate-clause-why g c =
@@ -116,7 +115,7 @@ returns-clause-answers g c =
     (made_answers tells (call.Tick to) (tick_works to) old may.0.runs new None all.sound is.count is.stopped
     (λ told config h caller before. is.stands told config h (stands_in_round old (old.rounds + 1) config h before) caller)
     (λ told config h caller before. is.any_moment told config h (stands_in_round old (old.rounds + 1) config h before) caller)
-    all.numbers all.faults tt tt all.pinned)
+    all.numbers all.drawn all.faults tt tt all.retired all.pinned)
 
 pub returns-clause-gone : goal.returns-clause-gone
 returns-clause-gone g c = λ told config opened h stands caller.
@@ -159,23 +158,32 @@ returns-clause-is_true g c = λ told config opened h stands caller.
     is.manifest.0 is.manifest.1 c.in_ok-certificate.certificate is.certificate is.due
 
 pub returns-clause-certified : goal.returns-clause-certified
-returns-clause-certified g c = λ told config opened h stands caller.
+returns-clause-certified g c = λ told config opened h answered stands caller.
     let old = view_of c.args.self.now.core in
     let new : View = view_of c.tick.new.core in
     let may = c.in_ok-may_tick.ensures.may in
     let is = c.in_ok-certificate.ensures in
     let runs = still_runs old new is.stopped may.0.runs in
     let answers = returns-clause-answers g c in
-    let stood = call_certified g.D.Disk.tells (Makes (call.Tick c.args.to)) None (ticked_face old c.args.to new.retired) old new answers told config opened h caller c.args.self.now.certificates.items stands in
+    let stood = call_certified g.D.Disk.tells (Makes (call.Tick c.args.to)) None (ticked_face old c.args.to) old new answers told config opened h caller answered stands in
     with_answer config opened h caller c.args.to new stood.since runs c.tick.ensures.sound.writable ((c.tick.ensures.sound.held told).2 runs).settled.synced is.manifest.0 is.manifest.1 stands.since.begins
-    c.in_ok-certificate.certificate is.certificate is.due c.args.self.now.certificates.items c.tick.new.certificates.items is.certified stood
+    c.in_ok-certificate.certificate is.certificate is.due answered stood
 
 pub returns-in_err-certificate-clause-certified : goal.returns-in_err-certificate-clause-certified
-returns-in_err-certificate-clause-certified g c = λ told config opened h stands caller.
+returns-in_err-certificate-clause-certified g c = λ told config opened h answered stands caller.
     let old = view_of c.args.self.now.core in
     let new : View = view_of c.tick.new.core in
     let Asks = Makes (call.Tick c.args.to) in
-    let why = result_err c.from_residual-in_err-certificate.result in
-    let answers = returns-in_err-certificate-clause-answers g c in
-    subst (λ answered. StandsFor config opened (behind h caller Asks why) new answered) (sym c.in_err-certificate.ensures.certified)
-    (call_certified g.D.Disk.tells Asks why (ticked_face old c.args.to new.retired) old new answers told config opened h caller c.args.self.now.certificates.items stands)
+    let result = c.from_residual-in_err-certificate.result in
+    let refusal : result ≡ Err c.in_err-certificate.field-0.0 = search rules in
+    refused_certified config opened h caller Asks new result c.in_err-certificate.field-0.0 refusal answered
+    (call_certified g.D.Disk.tells Asks (result_err result) (ticked_face old c.args.to) old new (returns-in_err-certificate-clause-answers g c) told config opened h caller answered stands)
+
+pub returns-in_err-may_tick-clause-certified : goal.returns-in_err-may_tick-clause-certified
+returns-in_err-may_tick-clause-certified g c = λ told config opened h answered stands caller.
+    let old = view_of c.args.self.now.core in
+    let Asks = Makes (call.Tick c.args.to) in
+    let result = c.from_residual.result in
+    let refusal : result ≡ Err c.in_err-may_tick.field-0.0 = search rules in
+    refused_certified config opened h caller Asks old result c.in_err-may_tick.field-0.0 refusal answered
+    (call_certified g.D.Disk.tells Asks (result_err result) (ticked_face old c.args.to) old old (returns-in_err-may_tick-clause-answers g c) told config opened h caller answered stands)

@@ -54,7 +54,7 @@ returns-clause-answers g c =
     let bytes = c.next_page.ensures in
     let written = subst (λ bytes. IfSome old.flight (λ flying. OnOk result (new.flight ≡ Some (with_page flying (page_name old.state.next, bytes))))) bytes c.write_now.ensures.written in
     subst (λ face. Answers g.D.Disk.tells (Serves Work) (result_err result) face old new)
-    (written_by old new (page_name old.state.next, next_bytes c.args.job.now) result (ap (λ begun. begun.jobs.count) c.write_now.ensures.begun) (ap (λ begun. begun.rounds) c.write_now.ensures.begun) (ap (λ names. names.items) c.write_now.ensures.retired) c.write_now.ensures.keeps.pins there written c.write_now.ensures.kept)
+    (written_by old new (page_name old.state.next, next_bytes c.args.job.now) result (ap (λ begun. begun.jobs.count) c.write_now.ensures.begun) (ap (λ begun. begun.rounds) c.write_now.ensures.begun) c.write_now.ensures.keeps.pins there written c.write_now.ensures.kept)
     (step_answers g.D.Disk.tells (max_place ≤ old.state.next) (result_err result) old new c.faults-before.result c.in_ok-may_change.ensures.fits.0 c.faults-before.ensures c.write_now.ensures.keeps
     (if_refused result (HasReason (max_place ≤ old.state.next) old.state c.faults-before.result new.faults) c.write_now.ensures.why) (if_refused result (IsUndone g.D.Disk.tells old new) c.write_now.ensures.undone))
 
