@@ -15,7 +15,7 @@ use Rattle.lethe_fade.specs.declared.plan.Plan.{Plan}
 use Rattle.lethe_manifest.specs.Manifests as manifests
 use Rattle.lethe_manifest.specs.declared.manifest.Cited.{Cited}
 use Rattle.lethe_manifest.specs.declared.manifest.Manifest.{Manifest}
-use Rattle.lethe_state.specs.Left.{left_in}
+use Rattle.lethe_state.specs.Left.{left_with}
 use Rattle.lethe_state.specs.Writable.{IsWritable}
 use Rattle.lethe_state.specs.declared.state.State.{State}
 use Rattle.lethe_stored.specs.Files.{Parts, StoredFile}
@@ -88,11 +88,11 @@ module _ {D Page Port : Type 0} {disk : Ghosts D Page Port} (by : Choice) (m : M
       (subst (λ l. IsNamedBy m.config.levels (map plain_file l) erases plan.file plan.erase) (sym same) named)
 
   -- on any disk
-  pub picked_here : (view : View) → m ≡ view.state.manifest → AllZip (IsCitedAs view.levels) view.state.manifest.files (map plain_file files) → erases ≡ left_in view.state
+  pub picked_here : (view : View) → m ≡ view.state.manifest → AllZip (IsCitedAs view.levels) view.state.manifest.files (map plain_file files) → erases ≡ left_with view.state
       → (plan : Option Plan) → plan ≡ picked by m.config shape m.clock → IsPickedIn by view plan
   picked_here view m_is cited left plan is = record {
     shape = shape;
-    of = record { files = map plain_file files; cited = cited; is = shape_is ∙ (λ i. shape_of (fields_is i).levels (map plain_file (seen_is i)) (left i)) ∙ ap (λ (m : Manifest). shape_of m.config.levels (map plain_file files) (left_in view.state)) m_is };
+    of = record { files = map plain_file files; cited = cited; is = shape_is ∙ (λ i. shape_of (fields_is i).levels (map plain_file (seen_is i)) (left i)) ∙ ap (λ (m : Manifest). shape_of m.config.levels (map plain_file files) (left_with view.state)) m_is };
     is = sym (is ∙ ap (λ (m : Manifest). picked by m.config shape m.clock) m_is);
   }
 

@@ -18,7 +18,7 @@ use Rattle.lethe_pins.specs.Held.{is_named}
 use Rattle.lethe_pins.specs.declared.pin.Pin.{Pin}
 use Rattle.lethe_install.specs.Outcomes.{IsInstalled}
 use Rattle.lethe_install.specs.declared.steps.Installation.{Installation}
-use Rattle.lethe_state.specs.Left.{left_in}
+use Rattle.lethe_state.specs.Left.{left_with}
 use Rattle.lethe_state.specs.Room.{HasRoom, IsFrozen, IsUnfrozen}
 use Rattle.lethe_job.specs.Shapes.{due_shape, shape_of}
 use Rattle.lethe_job.specs.MadeOf.{numbers_in}
@@ -53,7 +53,7 @@ due_choice to = chosen_by (DueAt to)
 pub record IsShapeIn (view : View) (shape : Shape) : Type 0 where
   pub files : List StoredFile
   pub cited : AllZip (IsCitedAs view.levels) view.state.manifest.files files
-  pub is : shape ≡ shape_of view.state.manifest.config.levels files (left_in view.state)
+  pub is : shape ≡ shape_of view.state.manifest.config.levels files (left_with view.state)
 
 -- the plan that is picked for that shape at the clock
 pub record IsPickedIn (by : Choice) (view : View) (plan : Option Plan) : Type 0 where

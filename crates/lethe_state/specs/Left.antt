@@ -16,8 +16,8 @@ abbrev pub done_with : State → List Cited → Option ℕ
 done_with state files = earlier (least (map (λ file. file.swept) files)) (earlier state.firsts.put state.frozen_firsts.put)
 
 -- the pending erases that are still to be done
-abbrev pub left_in : State → List Pending
-left_in state = filter (λ erase. is_above (done_with state state.manifest.files) erase.seq) state.pending
+abbrev pub left_with : State → List Pending
+left_with state = filter (λ erase. is_above (done_with state state.manifest.files) erase.seq) state.pending
 
 -- the place of the first erase that a segment records
 abbrev pub first_recorded : State → Option ℕ

@@ -5,7 +5,7 @@ ghost use Rattle.lethe_base.specs.Spent.{done_upto, is_above, least, left_erases
 ghost use Rattle.lethe_stored.specs.Files.{Parts};
 ghost use Rattle.lethe_stored.specs.Stored.{Stored, layout_of};
 ghost use Rattle.lethe_follows.specs.Leaving.{is_kept, kept_erases};
-ghost use Rattle.lethe_state.specs.Left.{HasOtherFiles, done_with, first_recorded, kept_with, left_in};
+ghost use Rattle.lethe_state.specs.Left.{HasOtherFiles, done_with, first_recorded, kept_with, left_with};
 ghost use Rattle.lethe_state.specs.Remembered.{Remembers};
 ghost use Rattle.lethe_state.specs.Writable.{IsWritable};
 
@@ -38,7 +38,7 @@ impl State {
     /// The pending erases that are still to be done.
     pub fn left_erases(&self) -> &[Pending]
         requires { IsWritable self.now }
-        ensures is { result.now ≡ left_in self.now }
+        ensures is { result.now ≡ left_with self.now }
         ensures left { (s : Stored) (levels : prelude.List (prelude.List Parts)) → Remembers s self.now levels → result.now ≡ left_erases (layout_of s) }
     {
         let done = self.done_upto(self.manifest.files.items());
@@ -47,7 +47,7 @@ impl State {
 
     /// How many of the pending erases are still to be done.
     pub fn left_count(&self) -> u64
-        ensures is { result ≡ length (left_in self.now) }
+        ensures is { result ≡ length (left_with self.now) }
         ensures left { (s : Stored) (levels : prelude.List (prelude.List Parts)) → Remembers s self.now levels → result ≡ length (left_erases (layout_of s)) }
     {
         let done = self.done_upto(self.manifest.files.items());

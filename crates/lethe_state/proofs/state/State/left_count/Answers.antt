@@ -3,7 +3,7 @@ use Rattle.std.proofs.lemmas.Iterator.{YieldsList-from_slice}
 use Rattle.std.proofs.lemmas.Iterator.Consumers.{YieldsList-from_filter, count_from_yields_List}
 use Rattle.lethe_base.specs.Spent.{is_above}
 use Rattle.lethe_base.specs.declared.pending.Pending.{Pending}
-use Rattle.lethe_state.specs.Left.{done_with, left_in}
+use Rattle.lethe_state.specs.Left.{done_with, left_with}
 use Rattle.lethe_state.proofs.Left.{left_remembered}
 use Rattle.lethe_state.proofs.state.State.left_count.Goals as goal
 
@@ -19,5 +19,5 @@ returns-clause-is c =
 
 pub returns-clause-left : goal.returns-clause-left
 returns-clause-left c = λ s levels is.
-    let count : c.count.result ≡ length (left_in c.args.self.now) = returns-clause-is c in
+    let count : c.count.result ≡ length (left_with c.args.self.now) = returns-clause-is c in
     count ∙ ap length (left_remembered s c.args.self.now levels is)
