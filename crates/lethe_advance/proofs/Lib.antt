@@ -8,3 +8,4 @@ pub mod Leveled
 pub mod Opened
 pub mod Quiet
 pub mod Stayed
+pub mod Calls

@@ -3,3 +3,4 @@ pub mod Shown
 pub mod Steps
 pub mod Untorn
 pub mod Segment
+pub mod Calls

@@ -1,5 +1,5 @@
 //! Going from what is stored to what is stored next.
-ghost use Rattle.std.specs.Prelude.{◌≡◌, ◌⊎◌, ℕ, ◌+◌, ◌<◌, ◌≤◌, List, [], Some, length, map, All, Contains, IfOk, OnOk, IsErrOf};
+ghost use Rattle.std.specs.Prelude.{◌≡◌, ◌⊎◌, ℕ, ◌+◌, ◌*◌, ◌<◌, ◌≤◌, List, [], Some, length, map, All, Contains, IfOk, OnOk, IsErrOf};
 ghost use Rattle.lethe_base.specs.declared.name.Name.{Name};
 ghost use Rattle.lethe_disk.specs.Directory.{Directory, SameBeside, object};
 ghost use Rattle.lethe_disk.specs.Disk.{HasCause, IsSynced};
@@ -16,6 +16,7 @@ ghost use Rattle.lethe_stored.specs.Stored.{Stored, part_names};
 ghost use Rattle.lethe_stored.specs.Encodes.{Encodes};
 ghost use Rattle.lethe_stored.specs.Levels.{HasFiles};
 ghost use Rattle.lethe_version.specs.Versions.{levels_of};
+ghost use Rattle.lethe_advance.specs.Calls.{most_calls};
 ghost use Rattle.lethe_advance.specs.Settled.{IsSettled, HasOnly};
 ghost use Rattle.lethe_advance.specs.Shown.{parts_by_level};
 ghost use Rattle.lethe_advance.specs.Steps.{HasStayed, MayAdvance};
@@ -81,6 +82,10 @@ pub fn advance<D: Disk>(
         → HasFiles s (parts_by_level version.now) → IfOk result (λ next. HasFiles t (parts_by_level next)) }
     ensures levels { IfOk result (λ next. length (levels_of next) ≡ length (levels_of version.now)) }
     ensures calls { D.tells → OnOk result ((D.seen disk.old).moment + length step.now.objects.items + 4 ≤ (D.seen disk.new).moment) }
+    ensures most { D.tells → OnOk result ((D.seen disk.new).moment ≤ (D.seen disk.old).moment + most_calls headers.items step.now) }
+
+    // Where it is refused, the objects that it made may be removed again.
+    ensures soon { D.tells → (D.seen disk.new).moment ≤ (D.seen disk.old).moment + most_calls headers.items step.now + length step.now.objects.items }
     ensures no_memory { D.tells → IsErrOf result NoMemory → IsTakenBack (D.seen disk.old) (D.seen disk.new) }
     ensures cause { HasCause (D.faults disk.old) (D.faults disk.new) result }
 {
@@ -106,6 +111,8 @@ fn place_new<D: Disk>(disk: &mut D, objects: &[Object]) -> Result<(), DiskRefuse
     ensures done { D.tells → OnOk result ((D.seen disk.new).directory ≡ insert_all objects.now (D.seen disk.old).directory) }
     ensures synced { D.tells → OnOk result (IsSynced (D.seen disk.new)) }
     ensures calls { D.tells → OnOk result ((D.seen disk.old).moment + length objects.now ≤ (D.seen disk.new).moment) }
+    ensures most { D.tells → OnOk result ((D.seen disk.new).moment ≤ (D.seen disk.old).moment + length objects.now + 1) }
+    ensures soon { D.tells → (D.seen disk.new).moment ≤ (D.seen disk.old).moment + 2 * length objects.now + 1 }
     ensures no_memory { D.tells → IsErrOf result NoMemory → IsTakenBack (D.seen disk.old) (D.seen disk.new) }
     ensures idle { objects.now ≡ [] → disk.new ≡ disk.old }
     ensures cause { HasCause (D.faults disk.old) (D.faults disk.new) result }
@@ -122,6 +129,7 @@ fn take_back<D: Disk>(disk: &mut D, objects: &[Object]) -> Result<(), DiskRefuse
     ensures any_moment { D.tells → Leads (IsCleared (map name_of objects.now)) (D.seen disk.old) (D.seen disk.new) }
     ensures done { D.tells → OnOk result ((D.seen disk.new).directory ≡ remove_all (map name_of objects.now) (D.seen disk.old).directory) }
     ensures synced { D.tells → OnOk result (IsSynced (D.seen disk.new)) }
+    ensures soon { D.tells → (D.seen disk.new).moment ≤ (D.seen disk.old).moment + length objects.now + 1 }
     ensures no_memory { IsErrOf result NoMemory → ⊥ }
     ensures cause { HasCause (D.faults disk.old) (D.faults disk.new) result }
 {

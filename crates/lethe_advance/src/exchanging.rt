@@ -9,6 +9,7 @@ ghost use Rattle.lethe_header.specs.Headers as header;
 ghost use Rattle.lethe_manifest.specs.Manifests.{manifest_bytes};
 ghost use Rattle.lethe_commit.specs.Switch.{IsFree, IsSwitched, IsUnswitched, HasNew, IsTakenBack, manifest_name, switched};
 ghost use Rattle.lethe_version.specs.Versions.{levels_of};
+ghost use Rattle.lethe_advance.specs.Calls.{opened_by};
 ghost use Rattle.lethe_advance.specs.Shown.{HasPages, AreLevelsWith, new_parts, new_parts_at, parts_by_level};
 
 use crate::{NewHeader, Step};
@@ -48,6 +49,9 @@ pub fn exchange<D: Disk>(
         (parts_by_level version.now) (parts_by_level next)) }
     ensures levels { IfOk result (λ next. length (levels_of next) ≡ length (levels_of version.now)) }
     ensures calls { D.tells → OnOk result ((D.seen disk.old).moment + 4 ≤ (D.seen disk.new).moment) }
+
+    // Each page is opened, and a switch takes at most six calls.
+    ensures soon { D.tells → (D.seen disk.new).moment ≤ (D.seen disk.old).moment + opened_by headers.items + 6 }
     ensures no_memory { D.tells → IsErrOf result NoMemory → IsTakenBack (D.seen disk.old) (D.seen disk.new) }
     ensures unswitched { D.tells → IsErrOf result NoMemory → Leads (IsUnswitched step.now.manifest.no) (D.seen disk.old) (D.seen disk.new) }
     ensures cause { HasCause (D.faults disk.old) (D.faults disk.new) result }
@@ -71,6 +75,7 @@ fn open_files<D: Disk>(
     // On any disk:
     ensures levels { IfOk result (λ files. map (λ new. new.level) files.items ≡ map (λ new. new.level) headers.items) }
     ensures quiet { D.tells → IsQuiet (D.seen disk.old) (D.seen disk.new) }
+    ensures soon { D.tells → (D.seen disk.new).moment ≤ (D.seen disk.old).moment + opened_by headers.items }
     ensures cause { HasCause (D.faults disk.old) (D.faults disk.new) result }
 {
     let mut files = Vec::new(alloc);

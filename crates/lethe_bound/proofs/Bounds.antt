@@ -4,16 +4,19 @@ use Rattle.std.proofs.lemmas.List.{length_push}
 use Rattle.std.proofs.lemmas.List.Elements.{All-contains}
 use Rattle.lethe_base.specs.Causes.{IsOverdue, cause_of, erased}
 use Rattle.lethe_base.specs.Covers.{Covers}
-use Rattle.lethe_base.specs.Held.{Holds}
+use Rattle.lethe_base.specs.Held.{Holds, Tells}
 use Rattle.lethe_base.specs.History.{Change, History, after, clock_before}
 use Rattle.lethe_base.specs.Layout.{Layout}
 use Rattle.lethe_base.specs.Matching.{IsPut}
+use Rattle.lethe_base.specs.Spent.{IsSpent, left_erases}
 use Rattle.lethe_base.specs.declared.entry.Entry.{Entry}
+use Rattle.lethe_base.specs.declared.pending.Pending.{Pending}
 use Rattle.lethe_base.proofs.CauseLaws.{cause_is_first}
 use Rattle.lethe_base.proofs.HeldLaws.{shown_held}
+use Rattle.lethe_base.proofs.LeftErases.{left_unspent, unspent_left}
 use Rattle.lethe_base.proofs.Overdue.{erased_is, no_erase}
 use Rattle.lethe_cover.proofs.Grown.{cause_more, clock_next, clock_old, placed_within}
-use Rattle.lethe_bound.specs.Limits.{HoldsPut, IsBounded, IsLimit}
+use Rattle.lethe_bound.specs.Limits.{HoldsPut, IsBounded, IsLimit, IsOwed}
 
 -- what was erased has a cause, and the time is the clock before it
 timed : (h : History) (place time : ℕ) → erased h place ≡ Some time → (cause : ℕ) × (cause_of h place ≡ Some cause) × (clock_before h cause ≡ time)
@@ -22,6 +25,19 @@ timed h place time is = by (cause_of h place) refl is
     by : (o : Option ℕ) → cause_of h place ≡ o → option_map (clock_before h) o ≡ Some time → (cause : ℕ) × (cause_of h place ≡ Some cause) × (clock_before h cause ≡ time)
     by None at is = absurd (let clash : None ≡ Some time = is in cc)
     by (Some cause) at is = (cause, at, (let same : Some (clock_before h cause) ≡ Some time = is in cc))
+
+-- an erase that a held put waits for isn't spent
+waits : (l : Layout) (entry : Entry) (swept : ℕ) (erase : Pending) → Holds l entry swept → IsPut entry.body → swept < erase.seq → entry.seq < erase.seq → IsSpent l erase → ⊥
+waits l entry swept erase (inl recorded) put below behind spent = let upto = spent.segments entry recorded.0 put in absurd (omega (arith, upto, behind))
+waits l entry swept erase (inr filed) put below behind spent =
+    let upto = spent.files filed.0.file filed.0.there in
+    let same = filed.1 in
+    absurd (omega (arith, upto, same, below))
+
+-- an erase that is owed is told of
+told : (l : Layout) (erase : Pending) → IsOwed l erase → Tells l erase
+told l erase (inl left) = inl (left_unspent l erase left).0
+told l erase (inr recorded) = inr recorded
 
 module _ (threshold limit : ℕ) (h : History) (l : Layout) (covers : Covers threshold h l) (is : IsLimit threshold l limit) where
   -- the cause of what a layout holds isn't more than a threshold before the limit
@@ -34,10 +50,14 @@ module _ (threshold limit : ℕ) (h : History) (l : Layout) (covers : Covers thr
         let old = above.old in
         omega (arith, bound, old)
     | inr erased ↦
-        let pending = (covers.erases_covered.pending entry swept cause erased.0 held put caused erased.1).0 in
+        let covered = covers.erases_covered.pending entry swept cause erased.0 held put caused erased.1 in
+        let pending = covered.0 in
+        let below : swept < pending.0.seq = let less = covered.1 in let at = pending.2 in omega (arith, less, at) in
+        let behind : entry.seq < pending.0.seq = let less = first.later in let at = pending.2 in omega (arith, less, at) in
+        let left = unspent_left l pending.0 (pending.1, waits l entry swept pending.0 held put below behind) in
         let accepted = covers.places.erases pending.0 (inl pending.1) in
         let same : pending.0.time ≡ clock_before h cause = accepted.timed ∙ ap (clock_before h) pending.2 in
-        is.oldest (clock_before h cause) (inr (pending.0, inl pending.1, same))
+        is.oldest (clock_before h cause) (inr (pending.0, inl left, same))
   ]
 
   -- so a pin that is made now is bounded by its limit
@@ -64,7 +84,7 @@ module _ (threshold limit : ℕ) (h : History) (l : Layout) (covers : Covers thr
           let equal = old.2 in
           omega (arith, later, equal)
       | inr erase ↦
-          let fresh = covers.times_fresh.erases erase.0 erase.1 in
+          let fresh = covers.times_fresh.erases erase.0 (told l erase.0 erase.1) in
           let later : l.clock < erase.0.time + threshold = fresh.fresh in
           let same = erase.2 in
           let equal = old.2 in

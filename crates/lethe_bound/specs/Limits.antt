@@ -1,16 +1,21 @@
 -- The limit of a pin, at which a tick lets its pages go, and what it bounds.
 use Rattle.std.specs.Prelude.{◌≡◌, ◌⊎◌, ℕ, ◌+◌, ◌≤◌, List, Contains, Some, length}
 use Rattle.lethe_base.specs.Causes.{erased}
-use Rattle.lethe_base.specs.Held.{Holds, Tells}
+use Rattle.lethe_base.specs.Held.{Holds, IsRecorded}
 use Rattle.lethe_base.specs.History.{History, after}
-use Rattle.lethe_base.specs.Layout.{Layout}
+use Rattle.lethe_base.specs.Layout.{Layout, Erasing}
 use Rattle.lethe_base.specs.Matching.{IsPut}
+use Rattle.lethe_base.specs.Spent.{left_erases}
 use Rattle.lethe_base.specs.declared.entry.Entry.{Entry}
 use Rattle.lethe_base.specs.declared.pending.Pending.{Pending}
 
--- it is the time of an entry that is held, or of an erase that is told of: one that is pending or that a segment records
+-- the erase is pending and still to be done, or a segment records it
+abbrev pub IsOwed : Layout → Pending → Type 0
+IsOwed l erase = Contains (left_erases l) erase ⊎ IsRecorded l (Erasing erase)
+
+-- it is the time of an entry that is held, or of an erase that is owed
 abbrev pub IsObligation : Layout → ℕ → Type 0
-IsObligation l time = ((entry : Entry) × (swept : ℕ) × Holds l entry swept × (entry.since ≡ Some time)) ⊎ ((erase : Pending) × Tells l erase × (erase.time ≡ time))
+IsObligation l time = ((entry : Entry) × (swept : ℕ) × Holds l entry swept × (entry.since ≡ Some time)) ⊎ ((erase : Pending) × IsOwed l erase × (erase.time ≡ time))
 
 -- a threshold later than the clock, or than the oldest obligation where that is earlier
 pub record IsLimit (threshold : ℕ) (l : Layout) (limit : ℕ) : Type 0 where

@@ -1,8 +1,9 @@
 //! `lethe DIR run`: carries out the script on standard input, over the store that is kept in the folder DIR.
 #![tactic(auto)]
 
-use lethe_dirdisk::{DirDisk, DirRefused};
-use lethe_run::run;
+use lethe_dirdisk::{DirDisk, DirRefused, first_stray};
+use lethe_disk::{Disk, DiskRefused};
+use lethe_run::{are_words, run};
 use lethe_wire::{Sink, StdSink, StdSource, write_all};
 use std::env;
 use std::io::{self, ErrorKind};
@@ -37,7 +38,11 @@ fn status_of(rt: &HostRuntime, words: &[String]) -> u8 {
     let [dir, words @ ..] = words else {
         return say(&mut sink, b"bad words\n", BAD_WORDS);
     };
-    match DirDisk::open(rt, alloc, dir.as_str()) {
+    // Where the words are refused no folder is made or touched.
+    if !are_words(words) {
+        return say(&mut sink, b"bad words\n", BAD_WORDS);
+    }
+    match open_folder(rt, dir) {
         Ok(disk) => {
             let mut source = StdSource::new(rt.reader());
             run(alloc, words, &mut source, &mut sink, disk).status
@@ -46,6 +51,16 @@ fn status_of(rt: &HostRuntime, words: &[String]) -> u8 {
         Err(DirRefused::Foreign | DirRefused::Folder) => {
             say(&mut sink, b"bad folder\n", BAD_FOLDER)
         }
+    }
+}
+
+/// The disk of a folder. One in which a used store lies without its gate is refused: an opening would take it for a new store, and remove all.
+fn open_folder(rt: &HostRuntime, dir: &str) -> Result<DirDisk, DirRefused> {
+    let mut disk = DirDisk::open(rt, rt.alloc(), dir)?;
+    match disk.names(rt.alloc()) {
+        Ok(names) if first_stray(&names).is_none() => Ok(disk),
+        Err(DiskRefused::NoMemory) => Err(DirRefused::NoMemory),
+        Ok(_) | Err(DiskRefused::Failed) => Err(DirRefused::Folder),
     }
 }
 

@@ -1,5 +1,5 @@
 //! Making objects that aren't cited yet.
-ghost use Rattle.std.specs.Prelude.{◌≡◌, ◌+◌, ◌≤◌, length, map, None, OnOk, IsErrOf};
+ghost use Rattle.std.specs.Prelude.{◌≡◌, ◌+◌, ◌*◌, ◌≤◌, length, map, None, OnOk, IsErrOf};
 ghost use Rattle.std.specs.FinMap.{insert};
 ghost use Rattle.lethe_disk.specs.declared.disk.DiskRefused.TheVariants.{NoMemory};
 ghost use Rattle.lethe_disk.specs.Directory.{object, IsCreated, SameBeside};
@@ -60,6 +60,9 @@ pub fn place_all<D: Disk>(disk: &mut D, objects: &[Object]) -> Result<(), DiskRe
     ensures synced { D.tells → OnOk result (IsSynced (D.seen disk.new)) }
 
     ensures calls { D.tells → OnOk result ((D.seen disk.new).moment ≡ (D.seen disk.old).moment + length objects.now + 1) }
+
+    // Where it is refused, what was created may be removed again.
+    ensures soon { D.tells → (D.seen disk.new).moment ≤ (D.seen disk.old).moment + 2 * length objects.now + 1 }
     ensures no_memory { D.tells → IsErrOf result NoMemory → IsTakenBack (D.seen disk.old) (D.seen disk.new) }
     ensures cause { HasCause (D.faults disk.old) (D.faults disk.new) result }
 {
@@ -73,6 +76,7 @@ fn create_each<D: Disk>(disk: &mut D, objects: &[Object]) -> Result<(), DiskRefu
     ensures any_moment { D.tells → Leads (SameBeside (map name_of objects.now)) (D.seen disk.old) (D.seen disk.new) }
     ensures done { D.tells → OnOk result ((D.seen disk.new).directory ≡ insert_all objects.now (D.seen disk.old).directory) }
     ensures calls { D.tells → OnOk result ((D.seen disk.new).moment ≡ (D.seen disk.old).moment + length objects.now) }
+    ensures soon { D.tells → (D.seen disk.new).moment ≤ (D.seen disk.old).moment + 2 * length objects.now }
     ensures no_memory { D.tells → IsErrOf result NoMemory → IsTakenBack (D.seen disk.old) (D.seen disk.new) }
     ensures cause { HasCause (D.faults disk.old) (D.faults disk.new) result }
 {
@@ -99,6 +103,7 @@ pub fn remove_objects<D: Disk>(disk: &mut D, objects: &[Object]) -> Result<(), D
     requires { D.tells → ArePresent (map name_of objects.now) (D.seen disk.old).directory }
     ensures any_moment { D.tells → Leads (IsCleared (map name_of objects.now)) (D.seen disk.old) (D.seen disk.new) }
     ensures done { D.tells → OnOk result ((D.seen disk.new).directory ≡ remove_all (map name_of objects.now) (D.seen disk.old).directory) }
+    ensures soon { D.tells → (D.seen disk.new).moment ≤ (D.seen disk.old).moment + length objects.now }
     ensures no_memory { IsErrOf result NoMemory → ⊥ }
     ensures cause { HasCause (D.faults disk.old) (D.faults disk.new) result }
 {

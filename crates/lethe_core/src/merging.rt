@@ -1,5 +1,5 @@
 //! Merges and sweeps that a store carries out itself, and the step of one.
-ghost use Rattle.std.specs.Prelude.{◌≡◌, ◌≤◌, ◌+◌, ◌⊎◌, ◌↔◌, [], true, false, IsTrue, List, Ok, None, All, IfOk, IfErr, OnErr, OnOk, ◌<◌, IsErrOf};
+ghost use Rattle.std.specs.Prelude.{◌≡◌, ◌≤◌, ◌+◌, ◌⊎◌, ◌↔◌, [], true, false, IsTrue, List, Ok, None, All, IfOk, IfErr, OnErr, OnOk, ◌<◌, IsErrOf, length};
 ghost use Rattle.std.specs.Result.{result_err};
 ghost use Rattle.lethe_base.specs.History.{History};
 ghost use Rattle.lethe_base.specs.declared.config.Fields.{Fields};
@@ -7,6 +7,7 @@ ghost use Rattle.lethe_base.specs.declared.name.Name.{Name};
 ghost use Rattle.lethe_base.specs.declared.refused.Refused.TheVariants as refused;
 ghost use Rattle.lethe_header.specs.Headers as header;
 ghost use Rattle.lethe_stored.specs.Stored.{Stored};
+ghost use Rattle.lethe_advance.specs.Calls.{most_calls};
 ghost use Rattle.lethe_state.specs.Room.{IsStepFrom};
 ghost use Rattle.lethe_state.specs.Writable.{segments_for};
 ghost use Rattle.lethe_job.specs.Jobs.{told_as};
@@ -237,6 +238,8 @@ impl<D: Disk> Core<D> {
         ensures begun { self.new.begun ≡ self.old.begun }
         ensures drawn { OnErr result (self.new.state.next ≡ self.old.state.next) }
         ensures why { IfErr result (HasReason ⊥ self.old.state before (D.faults self.new.disk)) }
+        ensures most { D.tells → OnOk result ((D.seen self.new.disk).moment ≤ (D.seen self.old.disk).moment + most_calls made.headers.items made.step) }
+        ensures soon { D.tells → (D.seen self.new.disk).moment ≤ (D.seen self.old.disk).moment + most_calls made.headers.items made.step + length made.step.objects.items }
     {
         let Installation {
             headers,

@@ -1,10 +1,11 @@
 //! Freezing, flushing and making room, as steps of a call.
-ghost use Rattle.std.specs.Prelude.{◌≡◌, ◌≤◌, ◌<◌, ◌+◌, ◌⊎◌, ℕ, List, [], None, Some, length, Contains, All, IfErr, IsErrOf, IsOk, IsSome, OnOk};
+ghost use Rattle.std.specs.Prelude.{◌≡◌, ◌≤◌, ◌<◌, ◌+◌, ◌-◌, ◌*◌, ◌⊎◌, ℕ, List, [], None, Some, length, Contains, All, IfErr, IsErrOf, IsOk, IsSome, OnOk};
 ghost use Rattle.std.specs.Result.{result_err};
 ghost use Rattle.lethe_base.specs.declared.name.Name.{Name};
 ghost use Rattle.lethe_base.specs.History.{History};
 ghost use Rattle.lethe_base.specs.declared.refused.Refused.TheVariants as refused;
 ghost use Rattle.lethe_disk.specs.Directory.{object};
+ghost use Rattle.lethe_build.specs.Built.{most_numbers};
 ghost use Rattle.lethe_header.specs.Headers as header;
 ghost use Rattle.lethe_manifest.specs.Manifests.{HasSpelling, manifest_bytes};
 ghost use Rattle.lethe_commit.specs.Gates.{gate_name};
@@ -13,10 +14,11 @@ ghost use Rattle.lethe_stored.specs.Kept.{IsFor, IsKept};
 ghost use Rattle.lethe_stored.specs.Levels.{HasFiles};
 ghost use Rattle.lethe_stored.specs.Numbers.{GoesFrom};
 ghost use Rattle.lethe_stored.specs.Stored.{Stored, part_names};
+ghost use Rattle.lethe_advance.specs.Calls.{most_calls};
 ghost use Rattle.lethe_advance.specs.Settled.{HasOnly, IsSettled};
 ghost use Rattle.lethe_advance.specs.Shown.{parts_by_level};
 ghost use Rattle.lethe_advance.specs.Steps.{HasStayed, IsStep};
-ghost use Rattle.lethe_state.specs.Room.{IsFlushed, IsFrozen, IsShortToFlush, IsShortToFreeze, IsUnfrozen};
+ghost use Rattle.lethe_state.specs.Room.{IsFlushed, IsFrozen, IsShortToFlush, IsShortToFreeze, IsUnfrozen, frozen_len};
 ghost use Rattle.lethe_core.specs.Keeps.{Keeps, MayStep};
 ghost use Rattle.lethe_core.specs.Merges.{Outcome, IsRoomBegun, IsRoomMadeBy, pages_of, AreRetiredBehind};
 ghost use Rattle.lethe_core.specs.Reasons.{HasReason, IsShort, IsShortOfRoom, IsUnreadable};
@@ -73,6 +75,9 @@ impl<D: Disk> Core<D> {
         ensures undone { IfErr result (IsUndone D.tells (view_of self.old) (view_of self.new)) }
         ensures done { D.tells → (s : Stored) → Holds (view_of self.old) s → OnOk result ((t : Stored) × IsUnfrozen s t × Holds (view_of self.new) t) }
         ensures ready { OnOk result (IsReadyToFreeze self.old.state self.new.state) }
+        // Each number that was drawn but the manifest's is one of an object, which is created and, where it is a page, opened.
+        ensures most { D.tells → OnOk result ((D.seen self.new.disk).moment ≤ (D.seen self.old.disk).moment + 2 * (self.new.state.next - self.old.state.next) + 7) }
+        ensures soon { D.tells → (D.seen self.new.disk).moment ≤ (D.seen self.old.disk).moment + 3 * most_numbers (frozen_len self.old.state.frozen) + 9 }
         ensures why { IfErr result (HasReason (IsShort self.old.state) self.old.state before (D.faults self.new.disk)) }
         ensures retired { self.new.retired ≡ self.old.retired }
         ensures flight { self.new.flight ≡ self.old.flight }
@@ -92,6 +97,9 @@ impl<D: Disk> Core<D> {
         ensures undone { IfErr result (IsUndone D.tells (view_of self.old) (view_of self.new)) }
         ensures done { D.tells → (s : Stored) → Holds (view_of self.old) s → OnOk result ((t : Stored) × IsFlushed s t × Holds (view_of self.new) t) }
         ensures ready { OnOk result (IsUnfrozenAfter self.old.state self.new.state) }
+        // Each number that was drawn but the manifest's is one of an object, which is created and, where it is a page, opened.
+        ensures most { D.tells → OnOk result ((D.seen self.new.disk).moment ≤ (D.seen self.old.disk).moment + 2 * (self.new.state.next - self.old.state.next) + 7) }
+        ensures soon { D.tells → (D.seen self.new.disk).moment ≤ (D.seen self.old.disk).moment + 3 * most_numbers (frozen_len self.old.state.frozen) + 9 }
         ensures why { IfErr result (HasReason (IsShortToFlush self.old.state) self.old.state before (D.faults self.new.disk)) }
         ensures retired { self.new.retired ≡ self.old.retired }
         ensures flight { self.new.flight ≡ self.old.flight }
@@ -111,6 +119,9 @@ impl<D: Disk> Core<D> {
         ensures undone { IfErr result (IsUndone D.tells (view_of self.old) (view_of self.new)) }
         ensures done { D.tells → (s : Stored) → Holds (view_of self.old) s → OnOk result ((t : Stored) × IsFrozen s t × Holds (view_of self.new) t) }
         ensures ready { OnOk result (IsEmptied self.old.state self.new.state) }
+        // The segment, the manifest and its gate are created, each with a sync, the older two are removed, and it syncs once more.
+        ensures most { D.tells → OnOk result ((D.seen self.new.disk).moment ≤ (D.seen self.old.disk).moment + 9) }
+        ensures soon { D.tells → (D.seen self.new.disk).moment ≤ (D.seen self.old.disk).moment + 10 }
         ensures why { IfErr result (HasReason (IsShortToFreeze self.old.state) self.old.state before (D.faults self.new.disk)) }
         ensures retired { self.new.retired ≡ self.old.retired }
         ensures flight { self.new.flight ≡ self.old.flight }
@@ -166,6 +177,9 @@ impl<D: Disk> Core<D> {
         ensures begun { self.new.begun ≡ self.old.begun }
         ensures pins { self.new.pins ≡ self.old.pins }
         ensures calls { D.tells → OnOk result ((D.seen self.old.disk).moment + length step.now.objects.items + 4 ≤ (D.seen self.new.disk).moment) }
+        ensures most { D.tells → OnOk result ((D.seen self.new.disk).moment ≤ (D.seen self.old.disk).moment + most_calls headers.items step.now) }
+        // Where it is refused, the objects that it made may be removed again.
+        ensures soon { D.tells → (D.seen self.new.disk).moment ≤ (D.seen self.old.disk).moment + most_calls headers.items step.now + length step.now.objects.items }
         ensures later { D.tells → (D.seen self.old.disk).moment ≤ (D.seen self.new.disk).moment }
         ensures faults { D.faults self.old.disk ≤ D.faults self.new.disk }
     {
@@ -220,6 +234,9 @@ impl<D: Disk> Core<D> {
         ensures begun { self.new.begun ≡ self.old.begun }
         ensures pins { self.new.pins ≡ self.old.pins }
         ensures calls { D.tells → OnOk result ((D.seen self.old.disk).moment + length step.now.objects.items + 4 ≤ (D.seen self.new.disk).moment) }
+        ensures most { D.tells → OnOk result ((D.seen self.new.disk).moment ≤ (D.seen self.old.disk).moment + most_calls headers.items step.now) }
+        // Where it is refused, the objects that it made may be removed again.
+        ensures soon { D.tells → (D.seen self.new.disk).moment ≤ (D.seen self.old.disk).moment + most_calls headers.items step.now + length step.now.objects.items }
         ensures later { D.tells → (D.seen self.old.disk).moment ≤ (D.seen self.new.disk).moment }
         ensures faults { D.faults self.old.disk ≤ D.faults self.new.disk }
     {

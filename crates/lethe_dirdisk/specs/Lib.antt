@@ -1,3 +1,4 @@
 pub mod FileNames
 pub mod Faults
 pub mod Lengths
+pub mod Strays

@@ -42,10 +42,10 @@ flags both = cc
 -- Work that was refused: what is stored is as it was, unless the disk failed.
 module _ (Tells : Type 0) (told : Tells) (config : Fields) (opened : Opened) (h : History) (old new : View) (s : Stored) (known : IsKnown config h old s) (why : Refused)
     (undone : IsUndone Tells old new why) where
-  pub work_refused : StandsSince config opened (refused_to h 0 Work why) new → (IsSome old.state.stopped → IsStill Tells old new) → face_of new ≡ face_of old
+  pub work_refused : StandsSince config opened (refused_to h 0 Work why) new → (IsSome old.state.stopped → IsStill Tells old new) → face_of new ≡ face_of old → new.pins ≡ old.pins
       → (t : Stored) × IsKnown config (refused_to h 0 Work why) new t × (failure_of why ≡ None → t ≡ s)
-  work_refused stood still face =
-      refused_known Tells config opened h old new s known Work why stood still (λ (t : Stored). t ≡ s) refl (λ none holds. (s, refl, before_holds Tells told old new s face (undone none) holds))
+  work_refused stood still face pins =
+      refused_known Tells config opened h old new s known Work why stood still (λ (t : Stored). t ≡ s) refl (λ none holds. (s, refl, before_holds Tells told old new s face pins (undone none) holds))
 
   -- and all else
   pub work_untouched : new.pins ≡ old.pins → (t : Stored) → (failure_of why ≡ None → t ≡ s) → (fetches_before fetches_now faults_before faults_now begun_before begun_now : ℕ) (there then : Option Going) (snapshots : List ℕ) → failure_of why ≡ None
@@ -55,19 +55,13 @@ module _ (Tells : Type 0) (told : Tells) (config : Fields) (opened : Opened) (h 
       record { stored = same none; state = is.state; levels = is.levels; retired = is.retired; pins = pins; directory = (is.disk told).directory }
 
 module _ (Tells : Type 0) (told : Tells) (config : Fields) (opened : Opened) (h : History) (old new : View) (s : Stored) (known : IsKnown config h old s) (fetches faults begun : ℕ) (there : Option Going) (snapshots : List ℕ)
-    (Nothing : State → Type 0) (Does : Stored → Stored → Type 0) (Short : Type 0) (face : face_of new ≡ face_of old) where
+    (Nothing : State → Type 0) (Does : Stored → Stored → Type 0) (Short : Type 0) (face : face_of new ≡ face_of old) (retired : new.retired ≡ old.retired) (pins : new.pins ≡ old.pins) where
   same_moment : new ≡ old → IsAllButPort (moment_of old s fetches faults begun there snapshots) (moment_of new s fetches faults begun there snapshots)
   same_moment same = subst (λ (view : View). IsAllButPort (moment_of old s fetches faults begun there snapshots) (moment_of view s fetches faults begun there snapshots)) (sym same)
       (record { stored = refl; state = refl; levels = refl; retired = refl; pins = refl; flight = refl; directory = refl; calls = refl; faults = refl; begun = refl; there = refl; snapshots = refl })
 
   flight : new.flight ≡ old.flight
   flight = ap (λ (face : Face). face.flight) face
-
-  retired : new.retired ≡ old.retired
-  retired = ap (λ (face : Face). face.retired) face
-
-  pins : new.pins ≡ old.pins
-  pins = ap (λ (face : Face). face.pins) face
 
   abbrev pub Worked : Result Bool Refused → Type 0
   Worked result = (t : Stored) × IsKnown config (behind h 0 (Serves Work) (result_err result)) new t
@@ -116,7 +110,7 @@ module _ (Tells : Type 0) (told : Tells) (config : Fields) (opened : Opened) (h 
     },
   )
   worked (Err why) stood still refused idle same done reason stopped last =
-      let is = work_refused Tells told config opened h old new s known why refused stood still face in (
+      let is = work_refused Tells told config opened h old new s known why refused stood still face pins in (
         is.0,
         is.1,
         record {
@@ -142,12 +136,12 @@ some_mapped f None is = is
 some_mapped f (Some x) is = refl
 
 -- no device call was made, and the store is as it was
-pub known_idle : (config : Fields) (h : History) (old new : View) (s : Stored) → IsIdle old.disk new.disk → new.state ≡ old.state → new.levels ≡ old.levels → face_of new ≡ face_of old
+pub known_idle : (config : Fields) (h : History) (old new : View) (s : Stored) → IsIdle old.disk new.disk → new.state ≡ old.state → new.levels ≡ old.levels → face_of new ≡ face_of old → new.retired ≡ old.retired → new.pins ≡ old.pins
     → IsKnown config h old s → IsKnown config h new s
-known_idle config h old new s idle state levels face known =
+known_idle config h old new s idle state levels face retired pins known =
     let remembers = subst (λ (state : State). Remembers s state new.levels) (sym state) (subst (λ (levels : List (List Parts)). Remembers s old.state levels) (sym levels) known.remembers) in
     let is_beside : IsBeside old new =
-    record { levels = levels; retired = ap (λ (face : Face). face.retired) face; flight = ap (λ (face : Face). face.flight) face; begun = ap (λ (face : Face). face.begun) face; rounds = ap (λ (face : Face). face.rounds) face; pins = ap (λ (face : Face). face.pins) face } in
+    record { levels = levels; retired = retired; flight = ap (λ (face : Face). face.flight) face; begun = ap (λ (face : Face). face.begun) face; rounds = ap (λ (face : Face). face.rounds) face; pins = pins } in
     record {
       config_is = known.config_is;
       stands = known.stands;

@@ -120,23 +120,7 @@ pub given : (result : Result (Unit {0}) Refused) → IsOk result → result ≡ 
 given (Ok done) is = refl
 given (Err why) is = absurd (nothing_in is)
 
--- the retired pages are as they were
-pub given_up_retired : (face : Face) (state : State) → (engine.given_up face state).retired ≡ face.retired
-given_up_retired face state = by (is_none state.stopped && nat_le max_place state.count)
-  where
-    by : (full : Bool) → (if full then face else record face { flight = None }).retired ≡ face.retired
-    by true = refl
-    by false = refl
-
--- and so are the pins
-pub given_up_pins : (face : Face) (state : State) → (engine.given_up face state).pins ≡ face.pins
-given_up_pins face state = by (is_none state.stopped && nat_le max_place state.count)
-  where
-    by : (full : Bool) → (if full then face else record face { flight = None }).pins ≡ face.pins
-    by true = refl
-    by false = refl
-
--- and no round ends
+-- no round ends
 pub given_up_rounds : (face : Face) (state : State) → (engine.given_up face state).rounds ≡ face.rounds
 given_up_rounds face state = by (is_none state.stopped && nat_le max_place state.count)
   where
@@ -183,8 +167,7 @@ module _ (Tells : Type 0) (told : Tells) (config : Fields) (opened : Opened) (h 
   }
 
   abbrev pub GivenUp : Result (Unit {0}) Refused → Type 0
-  GivenUp result = (t : Stored) × IsKnown config (behind h 0 (Serves Work) (result_err result)) new t × StandsSince config opened (behind h 0 (Serves Work) (result_err result)) new
-      × IsCancel h (moment_of old s fetches faults begun there snapshots) result (behind h 0 (Serves Work) (result_err result)) (moment_of new t fetches faults begun gone snapshots)
+  GivenUp result = (t : Stored) × IsKnown config (behind h 0 (Serves Work) (result_err result)) new t × IsCancel h (moment_of old s fetches faults begun there snapshots) result (behind h 0 (Serves Work) (result_err result)) (moment_of new t fetches faults begun gone snapshots)
 
   pub given_up : (result : Result (Unit {0}) Refused) → StandsSince config opened (behind h 0 (Serves Work) (result_err result)) new → (IsSome old.state.stopped → IsStill Tells old new)
       → IfSome (result_err result) (IsRefused Tells (Serves Work) old new) → (Holds old s → OnOk result (Holds new s)) → ((old.state.stopped ≡ None → old.state.count < max_place) → new.flight ≡ None) → new.retired ≡ old.retired → new.pins ≡ old.pins
@@ -194,7 +177,6 @@ module _ (Tells : Type 0) (told : Tells) (config : Fields) (opened : Opened) (h 
       let holds = held (known.held (not_stopped old.state.stopped (λ at e. ok_or_err done (Stopped at) (stopped at e)))) in (
         s,
         known_held config opened h new stood s holds,
-        stood,
         record {
           history = refl;
           why = tt;
@@ -217,7 +199,6 @@ module _ (Tells : Type 0) (told : Tells) (config : Fields) (opened : Opened) (h 
       (λ fine holds. absurd (must_fail old.state old.faults new.faults why reason no_memory enough holds.running.current.runs fine)) in (
         is.0,
         is.1,
-        stood,
         record {
           history = refl;
           why = kept_up is.0 why reason no_memory enough;

@@ -119,11 +119,11 @@ module _ {D Page Port : Type 0} {kind : Ghosts D Page Port} where
       -- the engine refused to install it
       pub install_refused : (config : Fields) (opened : Opened) → StandsSince config opened h old → StandsSince config opened h mid → old.faults ≤ mid.faults → (m : Stored) → IsKnown config h mid m → m ≡ s
           → IsWrittenOn old.flight mid.flight → mid.retired ≡ old.retired → mid.pins ≡ old.pins → (new : View) (back : Job D Page Port kind) (why : Refused) → StandsSince config opened (refused_to h 0 Work why) new
-          → (IsSome mid.state.stopped → IsStill Tells mid new) → IsUndone Tells mid new why → face_of new ≡ face_of mid → back.task.value ≡ job.task.value → back.round ≡ job.round → back.refused ≡ true
+          → (IsSome mid.state.stopped → IsStill Tells mid new) → IsUndone Tells mid new why → face_of new ≡ face_of mid → new.retired ≡ mid.retired → new.pins ≡ mid.pins → back.task.value ≡ job.task.value → back.round ≡ job.round → back.refused ≡ true
           → HasReason (engine.IsShortToInstall mid whole) mid.state mid.faults new.faults why → new.state.next ≡ mid.state.next
           → (t : Stored) × IsKnown config (refused_to h 0 Work why) new t × IsInstall PortsFail (going_of number job) h before (Err why) (refused_to h 0 Work why) (behind new t back)
-      install_refused config opened was stands later m known stored written retired pins new back why stood still undone face same round refused reason drawn =
-          let is = work_refused Tells told config opened h mid new m known why undone stood still face in
+      install_refused config opened was stands later m known stored written retired pins new back why stood still undone face left kept same round refused reason drawn =
+          let is = work_refused Tells told config opened h mid new m known why undone stood still face kept in
           let cause : Cause new is.0 back why = inl (
             mid.faults,
             new.faults,
@@ -133,8 +133,8 @@ module _ {D Page Port : Type 0} {kind : Ghosts D Page Port} where
                 (stopped_same config h old mid was.now stands.now) (count_same config h old mid was.now stands.now) why reason (λ last e runs short. short_of new is.0 back drawn short),
           ) in
           let flight : new.flight ≡ mid.flight = ap (λ (face : Face). face.flight) face in
-          let stay : new.retired ≡ old.retired = ap (λ (face : Face). face.retired) face ∙ retired in
-          let held : new.pins ≡ old.pins = ap (λ (face : Face). face.pins) face ∙ pins in
+          let stay : new.retired ≡ old.retired = left ∙ retired in
+          let held : new.pins ≡ old.pins = kept ∙ pins in
           (is.0, is.1, not_installed new is.0 back why same round refused cause (subst (IsWrittenOn old.flight) (sym flight) written) stay held (λ none. is.2 none ∙ stored))
 
     -- it was installed

@@ -18,3 +18,4 @@ pub mod Installing
 pub mod Changing
 pub mod Runs
 pub mod Kept
+pub mod Certificates

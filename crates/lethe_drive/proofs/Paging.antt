@@ -9,6 +9,7 @@ use Rattle.lethe_base.specs.Limits.{max_place}
 use Rattle.lethe_base.specs.declared.call.Call.TheVariants.{Work}
 use Rattle.lethe_base.specs.declared.config.Fields.{Fields}
 use Rattle.lethe_base.specs.declared.refused.Refused.{Refused}
+use Rattle.lethe_cert.specs.declared.certificate.Certificate.{Certificate}
 use Rattle.lethe_disk.specs.declared.disk.Disk.{Ghosts}
 use Rattle.lethe_file.specs.Agreement.{page_name}
 use Rattle.lethe_stored.specs.Stored.{Stored}
@@ -27,7 +28,7 @@ use Rattle.lethe_core.proofs.Hindered.{as_itself}
 use Rattle.lethe_engine.specs.Answers.{IsStill}
 use Rattle.lethe_engine.specs.Jobs.{written_face}
 use Rattle.lethe_drive.specs.Answers.{IsJobRefusal, IsWriteOut}
-use Rattle.lethe_engine.specs.StandsFor.{Opened, StandsSince}
+use Rattle.lethe_engine.specs.StandsFor.{Opened, StandsFor}
 use Rattle.lethe_drive.specs.Moments.{IsKnown, Moment, going_of, moment_of}
 use Rattle.lethe_drive.proofs.Freezing.{work_refused, work_untouched}
 use Rattle.lethe_drive.proofs.Reasons.{unread_cause, unread_history}
@@ -42,12 +43,13 @@ module _ {D Page Port : Type 0} {kind : Ghosts D Page Port} (Tells PortsFail : T
   later new t after = moment_of new t fetches faults begun (Some (going_of number after)) snapshots
 
   -- what a store that stood for a history and held this comes to
-  abbrev pub Paged : Fields → Opened → View → Job D Page Port kind → Result Bool Refused → Type 0
-  Paged config opened new after result = (t : Stored) × IsKnown config (behind h 0 (Serves Work) (result_err result)) new t × StandsSince config opened (behind h 0 (Serves Work) (result_err result)) new
+  abbrev pub Paged : Fields → Opened → List Certificate → View → Job D Page Port kind → Result Bool Refused → Type 0
+  Paged config opened answered new after result = (t : Stored) × IsKnown config (behind h 0 (Serves Work) (result_err result)) new t × StandsFor config opened (behind h 0 (Serves Work) (result_err result)) new answered
       × IsWriteOut PortsFail (going_of number job) h before result (behind h 0 (Serves Work) (result_err result)) (later new t after)
 
   -- the engine refused the page
-  module _ (told : Tells) (config : Fields) (opened : Opened) (known : IsKnown config h old s) (new : View) (why : Refused) (undone : IsUndone Tells old new why) (face : face_of new ≡ face_of old) where
+  module _ (told : Tells) (config : Fields) (opened : Opened) (known : IsKnown config h old s) (new : View) (why : Refused) (undone : IsUndone Tells old new why) (face : face_of new ≡ face_of old)
+      (retired : new.retired ≡ old.retired) (pins : new.pins ≡ old.pins) where
     page_refused : (t : Stored) → (failure_of why ≡ None → t ≡ s) → HasReason (max_place ≤ old.state.next) old.state old.faults new.faults why → mid.refused ≡ true
         → IsWriteOut PortsFail (going_of number job) h before (Err why) (refused_to h 0 Work why) (later new t mid)
     page_refused t same is refused = record {
@@ -56,19 +58,19 @@ module _ {D Page Port : Type 0} {kind : Ghosts D Page Port} (Tells PortsFail : T
         spoilt = record { written = mid.written; port_faults = kind.port_faults mid.port; there = spoilt Tells PortsFail job mid task number round refused };
         reason = inl (old.faults, new.faults, omega arith, omega arith, is);
         flight = ap (λ (face : Face). face.flight) face;
-        untouched = work_untouched Tells told config opened h old new s known why undone (ap (λ (face : Face). face.pins) face) t same fetches fetches faults faults begun begun (Some (going_of number job)) (Some (going_of number mid)) snapshots;
+        untouched = work_untouched Tells told config opened h old new s known why undone pins t same fetches fetches faults faults begun begun (Some (going_of number job)) (Some (going_of number mid)) snapshots;
       };
-      retired = ap (λ (face : Face). face.retired) face;
-      pins = record { held = ap (λ (face : Face). face.pins) face; snapshots = refl };
+      retired = retired;
+      pins = record { held = pins; snapshots = refl };
       begun = refl;
       port = record { fetches = refl; port_faults = refl };
     }
 
-    pub refused_paged : (IsSome old.state.stopped → IsStill Tells old new) → (result : Result Bool Refused) → result ≡ Err why → StandsSince config opened (refused_to h 0 Work why) new
-        → HasReason (max_place ≤ old.state.next) old.state old.faults new.faults why → mid.refused ≡ true → Paged config opened new mid result
-    refused_paged still result refusal stands is refused =
-        let known_then = work_refused Tells told config opened h old new s known why undone stands still face in
-        subst (Paged config opened new mid) (sym refusal) (known_then.0, known_then.1, stands, page_refused known_then.0 known_then.2 is refused)
+    pub refused_paged : (IsSome old.state.stopped → IsStill Tells old new) → (result : Result Bool Refused) → result ≡ Err why → (answered : List Certificate) → StandsFor config opened (refused_to h 0 Work why) new answered
+        → HasReason (max_place ≤ old.state.next) old.state old.faults new.faults why → mid.refused ≡ true → Paged config opened answered new mid result
+    refused_paged still result refusal answered stands is refused =
+        let known_then = work_refused Tells told config opened h old new s known why undone stands.since still face pins in
+        subst (Paged config opened answered new mid) (sym refusal) (known_then.0, known_then.1, stands, page_refused known_then.0 known_then.2 is refused)
 
   unread_reason : (why : Refused) → HasReason (max_place ≤ old.state.next) old.state old.faults old.faults why ⊎ IsUnreadable (Unit {0}) PortsFail (kind.port_faults job.port) (kind.port_faults mid.port) why
       → IsJobRefusal PortsFail (max_place ≤ old.state.next) before (going_of number job) (kind.port_faults mid.port) (later old s mid) why
@@ -94,14 +96,14 @@ module _ {D Page Port : Type 0} {kind : Ghosts D Page Port} (Tells PortsFail : T
     port = record { fetches = refl; port_faults = refl };
   }
 
-  pub unread_paged : (config : Fields) (opened : Opened) → Tells → AreSound (inputs_in (plain_task job.task.value)) → StandsSince config opened h old → IsKnown config h old s → (result : Result Bool Refused) (why : Refused) → result ≡ Err why
-      → IsUnread Tells PortsFail (inputs_in (plain_task job.task.value)) (kind.port_faults job.port) (kind.port_faults mid.port) why → mid.refused ≡ true → Paged config opened old mid result
-  unread_paged config opened told sound stands known result why refusal is refused =
+  pub unread_paged : (config : Fields) (opened : Opened) → Tells → AreSound (inputs_in (plain_task job.task.value)) → (answered : List Certificate) → StandsFor config opened h old answered → IsKnown config h old s → (result : Result Bool Refused) (why : Refused) → result ≡ Err why
+      → IsUnread Tells PortsFail (inputs_in (plain_task job.task.value)) (kind.port_faults job.port) (kind.port_faults mid.port) why → mid.refused ≡ true → Paged config opened answered old mid result
+  unread_paged config opened told sound answered stands known result why refusal is refused =
       let same = sym (unread_history Tells PortsFail (inputs_in (plain_task job.task.value)) (kind.port_faults job.port) (kind.port_faults mid.port) h Work why is) in
-      subst (Paged config opened old mid) (sym refusal) (
+      subst (Paged config opened answered old mid) (sym refusal) (
         s,
         subst (λ (g : History). IsKnown config g old s) same known,
-        subst (λ (g : History). StandsSince config opened g old) same stands,
+        subst (λ (g : History). StandsFor config opened g old answered) same stands,
         page_unread told sound why is refused,
       )
 
@@ -117,9 +119,9 @@ module _ {D Page Port : Type 0} {kind : Ghosts D Page Port} (Tells PortsFail : T
 
     -- the next page was written
     pub page_written : (new : View) (after : Job D Page Port kind) → after.task.value ≡ mid.task.value → after.round ≡ mid.round → after.refused ≡ false → after.written ≡ mid.written + 1 → IfSome mid.made (λ made. job.written < length (pages_of made))
-        → face_of new ≡ written_face (face_of old) (page_name old.state.next, next_bytes mid) (Ok tt) → new.disk.directory ≡ insert old.disk.directory (page_name old.state.next) (next_bytes mid)
+        → face_of new ≡ written_face (face_of old) (page_name old.state.next, next_bytes mid) (Ok tt) → new.retired ≡ old.retired → new.pins ≡ old.pins → new.disk.directory ≡ insert old.disk.directory (page_name old.state.next) (next_bytes mid)
         → IsWriteOut PortsFail (going_of number job) h before (Ok true) h (later new s after)
-    page_written new after kept stays asked more left face directory =
+    page_written new after kept stays asked more left face retired pins directory =
         let P : Option Made → Type 0 = λ o. IfSome o (λ made. job.written < length (pages_of made)) in
         let few : job.written < length (pages_of made) = subst P made_is left in
         let count = works.count in
@@ -147,8 +149,8 @@ module _ {D Page Port : Type 0} {kind : Ghosts D Page Port} (Tells PortsFail : T
               there = goes_on Tells PortsFail job after (kept ∙ task) number (job.written + 1) (stays ∙ round) works.asked asked (more ∙ ap (λ n. n + 1) written);
             };
           };
-          retired = ap (λ (face : Face). face.retired) face;
-          pins = record { held = ap (λ (face : Face). face.pins) face; snapshots = refl };
+          retired = retired;
+          pins = record { held = pins; snapshots = refl };
           begun = refl;
           port = record { fetches = refl; port_faults = refl };
         }

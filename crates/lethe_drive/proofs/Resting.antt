@@ -10,6 +10,7 @@ use Rattle.lethe_base.specs.declared.config.Fields.{Fields}
 use Rattle.lethe_base.specs.declared.name.Name.{Name}
 use Rattle.lethe_base.specs.declared.refused.Refused.{Refused}
 use Rattle.lethe_base.specs.declared.refused.Refused.TheVariants.{Fault, Stopped, Backwards, Pinned, NothingDue, Cancelled, Exhausted, ReadFault, NoMemory, Damaged}
+use Rattle.lethe_cert.specs.declared.certificate.Certificate.{Certificate}
 use Rattle.lethe_disk.specs.declared.disk.Disk.{Ghosts}
 use Rattle.lethe_file.specs.Agreement.{page_name}
 use Rattle.lethe_stored.specs.Stored.{Stored}
@@ -18,7 +19,7 @@ use Rattle.lethe_core.specs.Asked.{Serves, behind}
 use Rattle.lethe_core.specs.Jobs.{IsAtWork}
 use Rattle.lethe_core.specs.Reasons.{HasReason, IsUnreadable}
 use Rattle.lethe_core.specs.View.{Flying, View}
-use Rattle.lethe_engine.specs.StandsFor.{Opened, StandsSince}
+use Rattle.lethe_engine.specs.StandsFor.{Opened, StandsFor}
 use Rattle.lethe_drive.specs.Answers.{IsWriteOut}
 use Rattle.lethe_drive.specs.Driving.{IsWritingOn, IsWrittenOn}
 use Rattle.lethe_drive.specs.Moments.{Going, IsKnown, Moment, going_of, moment_of}
@@ -59,12 +60,12 @@ one_more PortsFail going h first old false g new is so_far = no_more first old.f
 -- the history for which a store stands, what it is known to have stored, the retired pages and the pins are as they were, and the job in flight has more pages
 abbrev pub Rests : Type 0 → View → View → Type 0
 Rests Tells old new =
-    Tells → (config : Fields) (opened : Opened) (h : History) → StandsSince config opened h old → (s : Stored) → IsKnown config h old s → StandsSince config opened h new × IsKnown config h new s × IsWrittenOn old.flight new.flight
+    Tells → (config : Fields) (opened : Opened) (h : History) (answered : List Certificate) → StandsFor config opened h old answered → (s : Stored) → IsKnown config h old s → StandsFor config opened h new answered × IsKnown config h new s × IsWrittenOn old.flight new.flight
     × (new.retired ≡ old.retired) × (new.pins ≡ old.pins)
 
 -- nothing was written yet
 pub rests_first : {D Page Port : Type 0} {kind : Ghosts D Page Port} (Tells : Type 0) (old : View) (job : Job D Page Port kind) → IsAtWork Tells old job → Rests Tells old old
-rests_first Tells old job works = λ told config opened h stands s known. (stands, known, none_more old.flight works.flies.flying works.flies.is, refl, refl)
+rests_first Tells old job works = λ told config opened h answered stands s known. (stands, known, none_more old.flight works.flies.flying works.flies.is, refl, refl)
 
 same_stored : (PortsFail : Type 0) (going : Going) (h : History) (old : Moment) (wrote : Bool) (g : History) (new : Moment) → IsWriteOut PortsFail going h old (Ok wrote) g new → new.stored ≡ old.stored
 same_stored PortsFail going h old true g new is = is.answers.stored
@@ -116,21 +117,21 @@ module _ (PortsFail : Type 0) (old mid new : View) (faults : old.faults ≤ mid.
 module _ {D Page Port : Type 0} {kind : Ghosts D Page Port} (Tells PortsFail : Type 0) (old mid new : View) (job after : Job D Page Port kind) where
   -- the next page is written, or none is left
   abbrev pub Turns : Result Bool Refused → Type 0
-  Turns result = Tells → (config : Fields) (opened : Opened) (h : History) → StandsSince config opened h mid → (s : Stored) → IsKnown config h mid s → (number fetches faults begun : ℕ) (snapshots : List ℕ)
-      → (t : Stored) × IsKnown config (behind h 0 (Serves Work) (result_err result)) new t × StandsSince config opened (behind h 0 (Serves Work) (result_err result)) new
+  Turns result = Tells → (config : Fields) (opened : Opened) (h : History) (answered : List Certificate) → StandsFor config opened h mid answered → (s : Stored) → IsKnown config h mid s → (number fetches faults begun : ℕ) (snapshots : List ℕ)
+      → (t : Stored) × IsKnown config (behind h 0 (Serves Work) (result_err result)) new t × StandsFor config opened (behind h 0 (Serves Work) (result_err result)) new answered
       × IsWriteOut PortsFail (going_of number job) h (moment_of mid s fetches faults begun (Some (going_of number job)) snapshots) result
       (behind h 0 (Serves Work) (result_err result)) (moment_of new t fetches faults begun (Some (going_of number after)) snapshots)
 
   -- what the turns come to
   abbrev pub Comes : ℕ → Result (Unit {0}) Refused → Type 0
-  Comes first result = Tells → (config : Fields) (opened : Opened) (h : History) → StandsSince config opened h old → (s : Stored) → IsKnown config h old s
-      → (t : Stored) × IsKnown config (behind h 0 (Serves Work) (result_err result)) new t × StandsSince config opened (behind h 0 (Serves Work) (result_err result)) new × IsWritingOn PortsFail old new first (kind.port_faults after.port) s t result
+  Comes first result = Tells → (config : Fields) (opened : Opened) (h : History) (answered : List Certificate) → StandsFor config opened h old answered → (s : Stored) → IsKnown config h old s
+      → (t : Stored) × IsKnown config (behind h 0 (Serves Work) (result_err result)) new t × StandsFor config opened (behind h 0 (Serves Work) (result_err result)) new answered × IsWritingOn PortsFail old new first (kind.port_faults after.port) s t result
 
   -- one more was acknowledged
   pub rests_on : (wrote : Bool) → Rests Tells old mid → Turns (Ok wrote) → Rests Tells old new
-  rests_on wrote rests turn = λ told config opened h stands s known.
-      let so_far = rests told config opened h stands s known in
-      let turned = turn told config opened h so_far.0 s so_far.1 0 0 0 0 [] in
+  rests_on wrote rests turn = λ told config opened h answered stands s known.
+      let so_far = rests told config opened h answered stands s known in
+      let turned = turn told config opened h answered so_far.0 s so_far.1 0 0 0 0 [] in
       let before = moment_of mid s 0 0 0 (Some (going_of 0 job)) [] in
       let now = moment_of new turned.0 0 0 0 (Some (going_of 0 after)) [] in (
         turned.2,
@@ -142,8 +143,8 @@ module _ {D Page Port : Type 0} {kind : Ghosts D Page Port} (Tells PortsFail : T
 
   -- the last one was acknowledged
   pub all_written : (first : ℕ) → Rests Tells old new → Comes first (Ok tt)
-  all_written first rests = λ told config opened h stands s known.
-      let in_the_end = rests told config opened h stands s known in
+  all_written first rests = λ told config opened h answered stands s known.
+      let in_the_end = rests told config opened h answered stands s known in
       (s, in_the_end.1, in_the_end.0, record { done = refl; why = tt; kept = tt; flight = in_the_end.2; retired = in_the_end.3; pins = in_the_end.4 })
 
   -- once its outputs are made a job reads no more
@@ -155,9 +156,9 @@ module _ {D Page Port : Type 0} {kind : Ghosts D Page Port} (Tells PortsFail : T
   -- one was refused
   pub turn_refused : (first : Job D Page Port kind) (why : Refused) → Rests Tells old mid → Turns (Err why) → old.faults ≤ mid.faults → new.state.next ≡ mid.state.next
       → (job.port ≡ first.port) ⊎ IsSome job.made → (IsSome job.made → (b n : ℕ) → ◌≡◌ {A = Result Bool Refused} (Err why) (Err (ReadFault b n)) → ⊥) → Comes (kind.port_faults first.port) (Err why)
-  turn_refused first why rests turn faults drawn port never = λ told config opened h stands s known.
-      let so_far = rests told config opened h stands s known in
-      let turned = turn told config opened h so_far.0 s so_far.1 0 0 0 0 [] in
+  turn_refused first why rests turn faults drawn port never = λ told config opened h answered stands s known.
+      let so_far = rests told config opened h answered stands s known in
+      let turned = turn told config opened h answered so_far.0 s so_far.1 0 0 0 0 [] in
       let refused = turned.3.answers in
       let spoilt = refused.spoilt in
       let now : kind.port_faults after.port ≡ spoilt.port_faults = ap port_of spoilt.there in
@@ -169,7 +170,7 @@ module _ {D Page Port : Type 0} {kind : Ghosts D Page Port} (Tells PortsFail : T
           done = tt;
           why = subst Cause (sym now)
               (since PortsFail old mid new faults drawn (kind.port_faults first.port) (kind.port_faults job.port) spoilt.port_faults why (no_more_read first why port never)
-              (stopped_same config h old mid stands.now so_far.0.now) (count_same config h old mid stands.now so_far.0.now) refused.reason);
+              (stopped_same config h old mid stands.since.now so_far.0.since.now) (count_same config h old mid stands.since.now so_far.0.since.now) refused.reason);
           kept = λ none. (refused.untouched none).stored;
           flight = no_more old.flight mid.flight new.flight so_far.2 refused.flight;
           retired = turned.3.retired ∙ so_far.3;

@@ -5,9 +5,11 @@ use Rattle.std.proofs.lemmas.List.Elements.{All-nil, All-tail}
 use Rattle.std.proofs.lemmas.Option.{none-some, same_Some}
 use Rattle.lethe_base.specs.History.{History}
 use Rattle.lethe_base.specs.declared.config.Fields.{Fields}
+use Rattle.lethe_cert.specs.declared.certificate.Certificate.{Certificate}
 use Rattle.lethe_stored.specs.Stored.{Stored}
 use Rattle.lethe_core.specs.View.{View}
-use Rattle.lethe_engine.specs.StandsFor.{Opened, StandsSince}
+use Rattle.lethe_engine.specs.StandsFor.{Opened, StandsFor}
+use Rattle.lethe_drive.specs.Certificates.{certificates_in}
 use Rattle.lethe_drive.specs.Driving.{IsDriven}
 use Rattle.lethe_drive.specs.Moments.{Going, IsKnown, IsLater, IsMomentOf, Moment, moment_of}
 use Rattle.lethe_drive.specs.Past.{AreEarlier, Run}
@@ -52,7 +54,7 @@ given_steps PortsFail config h now is (job ∷ past) earlier =
       h,
       run_at now past,
       record { now = is; earlier = rest },
-      record { faults = omega arith; port_faults = omega arith; pinned = λ name was now. refl },
+      record { faults = omega arith; port_faults = omega arith; pinned = λ name was now. refl; retired = λ name is. inl is },
       inl (record { front = []; job = job; back = past; among = refl; number_is = refl; answer_is = refl; history = refl; now = refl; past = refl }),
       given_steps PortsFail config h now is past rest,
     )
@@ -145,10 +147,10 @@ module _ (PortsFail : Type 0) (config : Fields) (h : History) (start : Moment) (
         }
 
 -- A run has ended with the store in this view, over these events and with these replies.
-module _ (PortsFail : Type 0) (config : Fields) (opened : Opened) (h : History) (start : Moment) (fetches faults : ℕ) where
+module _ (PortsFail : Type 0) (config : Fields) (opened : Opened) (h : History) (certificates : List Certificate) (start : Moment) (fetches faults : ℕ) where
   abbrev pub Ended : View → List Event → List Reply → Type 0
   Ended view events replies =
-      (g : History) × (t : Stored) × IsKnown config g view t × StandsSince config opened g view × (begun : ℕ) × IsDriven PortsFail config h start events replies g (moment_of view t fetches faults begun None [])
+      (g : History) × (t : Stored) × IsKnown config g view t × StandsFor config opened g view (certificates ++ certificates_in replies) × (begun : ℕ) × IsDriven PortsFail config h start events replies g (moment_of view t fetches faults begun None [])
 
   pub ended_as : (view : View) (events : List Event) (replies : List Reply) → Ended view events replies → (same : View) (all : List Event) (whole : List Reply) → same ≡ view → all ≡ events → whole ≡ replies
       → Ended same all whole

@@ -8,7 +8,6 @@ use Rattle.lethe_base.specs.Limits.{max_place}
 use Rattle.lethe_base.specs.declared.call.Call.TheVariants as call
 use Rattle.lethe_base.specs.declared.call.Did.TheVariants.{Done}
 use Rattle.lethe_base.specs.declared.config.Fields.{Fields}
-use Rattle.lethe_base.specs.declared.name.Name.{Name}
 use Rattle.lethe_base.specs.declared.refused.Refused.{Refused}
 use Rattle.lethe_base.specs.declared.refused.Refused.TheVariants.{Backwards, Exhausted, Pinned, Stopped}
 use Rattle.lethe_base.proofs.Histories.{after-push}
@@ -45,23 +44,15 @@ use Rattle.lethe_drive.proofs.Reasons.{reason_on, unreadable_told}
 -- Whether the round ends
 
 -- the jobs behind a tick, by whether it passed the tests
-abbrev face_if : View → List Name → Bool → Face
-face_if view retired passed = if passed then record { begun = view.begun; rounds = view.rounds + 1; flight = None; retired = retired; pins = view.pins } else face_of view
+abbrev face_if : View → Bool → Face
+face_if view passed = if passed then record (face_of view) { rounds = view.rounds + 1; flight = None } else face_of view
 
-module _ (to : ℕ) (old new : View) (face : face_of new ≡ engine.ticked_face old to new.retired) where
-  pub face_ends : engine.passes old to ≡ true → face_of new ≡ face_if old new.retired true
-  face_ends is = face ∙ ap (face_if old new.retired) is
+module _ (to : ℕ) (old new : View) (face : face_of new ≡ engine.ticked_face old to) where
+  pub face_ends : engine.passes old to ≡ true → face_of new ≡ face_if old true
+  face_ends is = face ∙ ap (face_if old) is
 
   pub face_stays : engine.passes old to ≡ false → face_of new ≡ face_of old
-  face_stays is = face ∙ ap (face_if old new.retired) is
-
-  -- the same pins are held
-  pub face_pins : new.pins ≡ old.pins
-  face_pins = by (engine.passes old to) refl
-    where
-      by : (passed : Bool) → engine.passes old to ≡ passed → new.pins ≡ old.pins
-      by true is = ap (λ (face : Face). face.pins) (face_ends is)
-      by false is = ap (λ (face : Face). face.pins) (face_stays is)
+  face_stays is = face ∙ ap (face_if old) is
 
   -- it does where one round more has ended
   pub passed : old.rounds < new.rounds → engine.passes old to ≡ true
@@ -104,7 +95,7 @@ pub record Tested (to : ℕ) (old new : View) (result : Result Ticked Refused) :
   pub pinned : engine.IsTickable old to → (pin limit : ℕ) → first_limit_of old.pins.pins ≡ Some (pin, limit) → limit ≤ to → (result ≡ Err (Pinned pin limit)) × (new ≡ old)
 
 module _ (Tells PortsFail : Type 0) (told : Tells) (to : ℕ) (config : Fields) (opened : Opened) (h : History) (old new : View) (s : Stored) (known : IsKnown config h old s)
-    (fetches_before fetches_now faults_before faults_now begun : ℕ) (there gone : Option Going) (snapshots : List ℕ) (stands : StandsSince config opened h old) (face : face_of new ≡ engine.ticked_face old to new.retired) where
+    (fetches_before fetches_now faults_before faults_now begun : ℕ) (there gone : Option Going) (snapshots : List ℕ) (stands : StandsSince config opened h old) (face : face_of new ≡ engine.ticked_face old to) (pins : new.pins ≡ old.pins) where
   abbrev before : Moment
   before = moment_of old s fetches_before faults_before begun there snapshots
 
@@ -213,7 +204,7 @@ module _ (Tells PortsFail : Type 0) (told : Tells) (to : ℕ) (config : Fields) 
             backwards = λ runs behind. sym cause.is ∙ (tested.backwards runs behind).0;
             last = λ runs forward none. sym cause.is ∙ (tested.last runs forward none).0;
             pinned = pinned why (λ pin limit barred. sym cause.is ∙ barred_refused result tested pin limit barred) s (cause.reason s);
-            pins = record { held = face_pins to old new face; snapshots = refl };
+            pins = record { held = pins; snapshots = refl };
             round = λ passed. absurd (let both : true ≡ false = sym passed ∙ not in cc);
             same = λ e. (all_same new cause.same gone stays, ap (λ (view : View). view.rounds) cause.same);
           },
@@ -281,7 +272,7 @@ module _ (Tells PortsFail : Type 0) (told : Tells) (to : ℕ) (config : Fields) 
               merges = made.5;
               number = made.3;
               stored = refl;
-              retired = subst (λ (pins : Held). AreNamed pins.pins new.retired) (face_pins to old new face) named;
+              retired = subst (λ (held : Held). AreNamed held.pins new.retired) pins named;
               fetches = made.7;
               clean = subst (λ (fields : Fields). IsClean fields.threshold new.disk.directory g to) (sym known.config_is) clean;
               due = subst (λ n. IsCertificateAt n to answer.certificate) (ap (λ (m : Manifest). m.config.threshold) stood.now.remembers.manifest ∙ ap (λ (fields : Fields). fields.threshold) (stood.now.config_is ∙ sym known.config_is)) due;
@@ -291,7 +282,7 @@ module _ (Tells PortsFail : Type 0) (told : Tells) (to : ℕ) (config : Fields) 
             backwards = λ runs behind. (tested.backwards runs behind).0;
             last = λ runs forward none. (tested.last runs forward none).0;
             pinned = λ pin limit. (λ e. absurd (ok_or_err answer (Pinned pin limit) e), barred_refused (Ok answer) tested pin limit);
-            pins = record { held = face_pins to old new face; snapshots = refl };
+            pins = record { held = pins; snapshots = refl };
             round = λ passed. ends (ticked made.1 to made.3);
             same = λ not. never not;
           },
@@ -306,7 +297,7 @@ module _ (Tells PortsFail : Type 0) (told : Tells) (to : ℕ) (config : Fields) 
             backwards = λ runs behind. (tested.backwards runs behind).0;
             last = λ runs forward none. (tested.last runs forward none).0;
             pinned = pinned why (barred_refused (Err why) tested) comes.0 (tick_reason why stood comes.0 comes.1 reason);
-            pins = record { held = face_pins to old new face; snapshots = refl };
+            pins = record { held = pins; snapshots = refl };
             round = λ passed. ends comes.0;
             same = λ not. never not;
           },

@@ -14,7 +14,7 @@ use Rattle.lethe_job.specs.declared.job.Job.{Job}
 use Rattle.lethe_core.specs.Asked.{failure_of}
 use Rattle.lethe_core.specs.Reasons.{HasReason, IsUnreadable}
 use Rattle.lethe_core.specs.Jobs.{IsAtWork, IsInFlight}
-use Rattle.lethe_core.specs.Pinned.{AreKeptBy}
+use Rattle.lethe_core.specs.Pinned.{AreKeptBy, AreRetiredFrom}
 use Rattle.lethe_core.specs.View.{Flying, View}
 use Rattle.lethe_drive.specs.Moments.{IsMomentOf, Moment}
 use Rattle.lethe_drive.specs.Past.{Run}
@@ -62,9 +62,10 @@ pub record IsWrittenOn (old new : Option Flying) : Type 0 where
   pub pages : List (Name × List ℕ)
   pub is : new ≡ Some (record flying { written = flying.written ++ pages })
 
--- each object that is named by a pin that is held before and by one behind is as it was, byte for byte
-abbrev pub IsPinnedKept : View → View → Type 0
-IsPinnedKept old new = AreKeptBy old.pins.pins new.pins.pins old.disk.directory new.disk.directory
+-- Each object that is named by a pin that is held before and by one behind is as it was, byte for byte; and each page that is retired behind was so before, or is named by a held pin.
+pub record IsPinnedKept (old new : View) : Type 0 where
+  pub pinned : AreKeptBy old.pins.pins new.pins.pins old.disk.directory new.disk.directory
+  pub retired : AreRetiredFrom old.pins.pins old.retired new.retired
 
 -- what is stored stays while pages of a job are written, and the same pins are held
 pub record IsWritingOn (PortsFail : Type 0) (old new : View) (before now : ℕ) (s t : Stored) (result : Result (Unit {0}) Refused) : Type 0 where

@@ -1,12 +1,15 @@
 //! Answering one event.
-ghost use Rattle.std.specs.Prelude.{◌≡◌, ◌⊎◌, ◌≤◌, ◌<◌, ◌+◌, ◌^◌, ℕ, List, None, length, vec_capacity};
+ghost use Rattle.std.specs.Prelude.{◌≡◌, ◌⊎◌, ◌≤◌, ◌<◌, ◌+◌, ◌++◌, ◌^◌, ℕ, List, None, length, vec_capacity};
 ghost use Rattle.lethe_base.specs.Limits.{max_time};
 ghost use Rattle.lethe_base.specs.History.{History};
 ghost use Rattle.lethe_base.specs.declared.config.Fields.{Fields};
 ghost use Rattle.lethe_stored.specs.Stored.{Stored};
 ghost use Rattle.lethe_core.specs.Running.{IsSound};
 ghost use Rattle.lethe_core.specs.View.{view_of};
-ghost use Rattle.lethe_engine.specs.StandsFor.{Opened, StandsSince};
+ghost use Rattle.lethe_cert.specs.declared.certificate.Certificate.{Certificate};
+ghost use Rattle.lethe_engine.specs.StandsFor.{Opened, StandsFor};
+ghost use Rattle.lethe_engine.specs.Ticks.{answered_by};
+ghost use Rattle.lethe_drive.specs.Certificates.{certificates_of};
 ghost use Rattle.lethe_drive.specs.Driving.{IsPinnedKept, IsTheirs};
 ghost use Rattle.lethe_drive.specs.Moments.{IsKnown, moment_of, numbers_of, there_of};
 ghost use Rattle.lethe_drive.specs.Past.{IsTickAsked};
@@ -39,10 +42,11 @@ pub(crate) fn answer<D: Disk>(
     requires space { length snapshots.old.items < vec_capacity snapshots.old }
     ensures sound { IsSound D.tells (view_of engine.new.core) }
     ensures jobs { IsTheirs D.tells (view_of engine.new.core) jobs.new }
-    ensures step { D.tells → (config : Fields) (opened : Opened) (h : History) → StandsSince config opened h (view_of engine.old.core) → (s : Stored) → IsKnown config h (view_of engine.old.core) s
-        → (g : History) × (t : Stored) × IsKnown config g (view_of engine.new.core) t × StandsSince config opened g (view_of engine.new.core)
+    ensures step { D.tells → (config : Fields) (opened : Opened) (h : History) (answered : List Certificate) → StandsFor config opened h (view_of engine.old.core) answered → (s : Stored) → IsKnown config h (view_of engine.old.core) s
+        → (g : History) × (t : Stored) × IsKnown config g (view_of engine.new.core) t × StandsFor config opened g (view_of engine.new.core) (answered ++ certificates_of result)
         × IsStep D.ports_fail h (moment_of (view_of engine.old.core) s (D.fetches port.old) (D.port_faults port.old) jobs.old.begun (there_of jobs.old) (numbers_of snapshots.old.items)) event result g (moment_of (view_of engine.new.core) t (D.fetches port.new) (D.port_faults port.new) jobs.new.begun (there_of jobs.new) (numbers_of snapshots.new.items)) }
     ensures pinned { D.tells → IsPinnedKept (view_of engine.old.core) (view_of engine.new.core) }
+    ensures certificates { engine.new.certificates.items ≡ engine.old.certificates.items ++ certificates_of result }
     ensures faults { D.faults engine.old.core.disk ≤ D.faults engine.new.core.disk }
     ensures port_faults { D.port_faults port.old ≤ D.port_faults port.new }
     ensures begun { jobs.new.begun ≤ jobs.old.begun + 1 }
@@ -98,10 +102,11 @@ fn tick<D: Disk>(
     requires within { to ≤ max_time }
     ensures sound { IsSound D.tells (view_of engine.new.core) }
     ensures jobs { IsTheirs D.tells (view_of engine.new.core) jobs.new }
-    ensures step { D.tells → (config : Fields) (opened : Opened) (h : History) → StandsSince config opened h (view_of engine.old.core) → (s : Stored) → IsKnown config h (view_of engine.old.core) s → (snapshots : List ℕ)
-        → (g : History) × (t : Stored) × IsKnown config g (view_of engine.new.core) t × StandsSince config opened g (view_of engine.new.core)
+    ensures step { D.tells → (config : Fields) (opened : Opened) (h : History) (answered : List Certificate) → StandsFor config opened h (view_of engine.old.core) answered → (s : Stored) → IsKnown config h (view_of engine.old.core) s → (snapshots : List ℕ)
+        → (g : History) × (t : Stored) × IsKnown config g (view_of engine.new.core) t × StandsFor config opened g (view_of engine.new.core) (answered ++ answered_by result)
         × IsTick D.ports_fail to h (moment_of (view_of engine.old.core) s (D.fetches port.old) (D.port_faults port.old) jobs.old.begun (there_of jobs.old) snapshots) result g (moment_of (view_of engine.new.core) t (D.fetches port.new) (D.port_faults port.new) jobs.new.begun (there_of jobs.new) snapshots) }
     ensures pinned { D.tells → IsPinnedKept (view_of engine.old.core) (view_of engine.new.core) }
+    ensures certificates { engine.new.certificates.items ≡ engine.old.certificates.items ++ answered_by result }
     ensures faults { D.faults engine.old.core.disk ≤ D.faults engine.new.core.disk }
     ensures port_faults { D.port_faults port.old ≤ D.port_faults port.new }
     ensures begun { jobs.new.begun ≡ jobs.old.begun }

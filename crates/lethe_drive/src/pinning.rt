@@ -1,11 +1,13 @@
 //! The events of pins.
-ghost use Rattle.std.specs.Prelude.{◌≡◌, ◌≤◌, ◌<◌, ◌+◌, ◌==◌, ℕ, List, Option, length, position, IfSome, vec_capacity};
+ghost use Rattle.std.specs.Prelude.{◌≡◌, ◌≤◌, ◌<◌, ◌+◌, ◌==◌, ℕ, List, [], Option, length, position, IfSome, vec_capacity};
 ghost use Rattle.lethe_base.specs.History.{History};
 ghost use Rattle.lethe_base.specs.declared.config.Fields.{Fields};
 ghost use Rattle.lethe_stored.specs.Stored.{Stored};
 ghost use Rattle.lethe_core.specs.Running.{Holds, IsSound};
 ghost use Rattle.lethe_core.specs.View.{view_of};
-ghost use Rattle.lethe_engine.specs.StandsFor.{Opened, StandsSince};
+ghost use Rattle.lethe_cert.specs.declared.certificate.Certificate.{Certificate};
+ghost use Rattle.lethe_engine.specs.StandsFor.{Opened, StandsFor};
+ghost use Rattle.lethe_drive.specs.Certificates.{certificates_of};
 ghost use Rattle.lethe_drive.specs.Moments.{Going, IsKnown, moment_of, numbers_of};
 ghost use Rattle.lethe_drive.specs.Pins.{released};
 ghost use Rattle.lethe_drive.specs.Steps.{IsStep};
@@ -26,10 +28,11 @@ pub(crate) fn pin<D: Disk>(
     requires sound { IsSound D.tells (view_of engine.old.core) }
     requires space { length snapshots.old.items < vec_capacity snapshots.old }
     ensures sound { IsSound D.tells (view_of engine.new.core) }
-    ensures step { D.tells → (config : Fields) (opened : Opened) (h : History) → StandsSince config opened h (view_of engine.old.core) → (s : Stored) → IsKnown config h (view_of engine.old.core) s
+    ensures step { D.tells → (config : Fields) (opened : Opened) (h : History) (answered : List Certificate) → StandsFor config opened h (view_of engine.old.core) answered → (s : Stored) → IsKnown config h (view_of engine.old.core) s
         → (fetches faults begun : ℕ) (there : Option Going)
-        → (g : History) × (t : Stored) × IsKnown config g (view_of engine.new.core) t × StandsSince config opened g (view_of engine.new.core)
+        → (g : History) × (t : Stored) × IsKnown config g (view_of engine.new.core) t × StandsFor config opened g (view_of engine.new.core) answered
         × IsStep D.ports_fail h (moment_of (view_of engine.old.core) s fetches faults begun there (numbers_of snapshots.old.items)) event.Pin result g (moment_of (view_of engine.new.core) t fetches faults begun there (numbers_of snapshots.new.items)) }
+    ensures none { certificates_of result ≡ [] }
     // The jobs are as they were, and no device call was made.
     ensures same { engine.new ≡ record engine.old { core = record engine.old.core { pins = engine.new.core.pins } } }
     ensures more { length snapshots.new.items ≤ length snapshots.old.items + 1 }
@@ -63,10 +66,11 @@ pub(crate) fn release<D: Disk>(
 ) -> Reply
     requires sound { IsSound D.tells (view_of engine.old.core) }
     ensures sound { IsSound D.tells (view_of engine.new.core) }
-    ensures step { D.tells → (config : Fields) (opened : Opened) (h : History) → StandsSince config opened h (view_of engine.old.core) → (s : Stored) → IsKnown config h (view_of engine.old.core) s
+    ensures step { D.tells → (config : Fields) (opened : Opened) (h : History) (answered : List Certificate) → StandsFor config opened h (view_of engine.old.core) answered → (s : Stored) → IsKnown config h (view_of engine.old.core) s
         → (fetches faults begun : ℕ) (there : Option Going)
-        → (g : History) × (t : Stored) × IsKnown config g (view_of engine.new.core) t × StandsSince config opened g (view_of engine.new.core)
+        → (g : History) × (t : Stored) × IsKnown config g (view_of engine.new.core) t × StandsFor config opened g (view_of engine.new.core) answered
         × IsStep D.ports_fail h (moment_of (view_of engine.old.core) s fetches faults begun there (numbers_of snapshots.old.items)) (event.Release number) result g (moment_of (view_of engine.new.core) t fetches faults begun there (numbers_of snapshots.new.items)) }
+    ensures none { certificates_of result ≡ [] }
     // The jobs are as they were, and no device call was made.
     ensures same { engine.new ≡ record engine.old { core = record engine.old.core { pins = engine.new.core.pins } } }
     ensures fewer { length snapshots.new.items ≤ length snapshots.old.items }
@@ -83,7 +87,7 @@ pub(crate) fn release<D: Disk>(
 pub(crate) fn release_all<D: Disk>(engine: &mut Engine<D>, mut snapshots: Vec<Snapshot<D>>)
     requires sound { IsSound D.tells (view_of engine.old.core) }
     ensures sound { IsSound D.tells (view_of engine.new.core) }
-    ensures stands { D.tells → (config : Fields) (opened : Opened) (h : History) → StandsSince config opened h (view_of engine.old.core) → StandsSince config opened h (view_of engine.new.core) }
+    ensures stands { D.tells → (config : Fields) (opened : Opened) (h : History) (answered : List Certificate) → StandsFor config opened h (view_of engine.old.core) answered → StandsFor config opened h (view_of engine.new.core) answered }
     ensures held { D.tells → (s : Stored) → Holds (view_of engine.old.core) s → Holds (view_of engine.new.core) s }
     ensures pins { engine.new ≡ record engine.old { core = record engine.old.core { pins = record engine.old.core.pins { pins = released (numbers_of snapshots.items) engine.old.core.pins.pins } } } }
 {

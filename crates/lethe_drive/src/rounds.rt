@@ -1,11 +1,13 @@
 //! Answering one event of a run, in which rounds end.
-ghost use Rattle.std.specs.Prelude.{◌≡◌, ◌≤◌, ◌<◌, ◌+◌, ◌^◌, length, vec_capacity};
+ghost use Rattle.std.specs.Prelude.{◌≡◌, ◌≤◌, ◌<◌, ◌+◌, ◌++◌, ◌^◌, List, length, vec_capacity};
 ghost use Rattle.lethe_base.specs.History.{History};
 ghost use Rattle.lethe_base.specs.declared.config.Fields.{Fields};
 ghost use Rattle.lethe_stored.specs.Stored.{Stored};
 ghost use Rattle.lethe_core.specs.Running.{IsSound};
 ghost use Rattle.lethe_core.specs.View.{view_of};
-ghost use Rattle.lethe_engine.specs.StandsFor.{Opened, StandsSince};
+ghost use Rattle.lethe_cert.specs.declared.certificate.Certificate.{Certificate};
+ghost use Rattle.lethe_engine.specs.StandsFor.{Opened, StandsFor};
+ghost use Rattle.lethe_drive.specs.Certificates.{certificates_of};
 ghost use Rattle.lethe_drive.specs.Driving.{IsPinnedKept, IsTheirs};
 ghost use Rattle.lethe_drive.specs.Moments.{IsKnown};
 ghost use Rattle.lethe_drive.specs.Past.{AreEarlier};
@@ -40,10 +42,11 @@ pub(crate) fn answer_any<D: Disk>(
     ensures sound { IsSound D.tells (view_of engine.new.core) }
     ensures jobs { IsTheirs D.tells (view_of engine.new.core) jobs.new }
     ensures earlier { AreEarlier engine.new.core.begun.rounds past.new.items }
-    ensures event { D.tells → (config : Fields) (opened : Opened) (h : History) → StandsSince config opened h (view_of engine.old.core) → (s : Stored) → IsKnown config h (view_of engine.old.core) s
-        → (g : History) × (t : Stored) × IsKnown config g (view_of engine.new.core) t × StandsSince config opened g (view_of engine.new.core)
+    ensures event { D.tells → (config : Fields) (opened : Opened) (h : History) (answered : List Certificate) → StandsFor config opened h (view_of engine.old.core) answered → (s : Stored) → IsKnown config h (view_of engine.old.core) s
+        → (g : History) × (t : Stored) × IsKnown config g (view_of engine.new.core) t × StandsFor config opened g (view_of engine.new.core) (answered ++ certificates_of result)
         × IsEvent D.ports_fail h (run_of (view_of engine.old.core) s (D.fetches port.old) (D.port_faults port.old) jobs.old snapshots.old.items past.old.items) event result g (run_of (view_of engine.new.core) t (D.fetches port.new) (D.port_faults port.new) jobs.new snapshots.new.items past.new.items) }
     ensures pinned { D.tells → IsPinnedKept (view_of engine.old.core) (view_of engine.new.core) }
+    ensures certificates { engine.new.certificates.items ≡ engine.old.certificates.items ++ certificates_of result }
     ensures faults { D.faults engine.old.core.disk ≤ D.faults engine.new.core.disk }
     ensures port_faults { D.port_faults port.old ≤ D.port_faults port.new }
     ensures begun { jobs.new.begun ≤ jobs.old.begun + 1 }

@@ -1,5 +1,5 @@
 //! The events of jobs.
-ghost use Rattle.std.specs.Prelude.{◌≡◌, ◌≤◌, ◌<◌, ◌+◌, ◌^◌, ℕ, List, true, false, Ok, Some, None, IsErrOf, IsSome, OnErr, OnOk};
+ghost use Rattle.std.specs.Prelude.{◌≡◌, ◌≤◌, ◌<◌, ◌+◌, ◌^◌, ℕ, List, [], true, false, Ok, Some, None, IsErrOf, IsSome, OnErr, OnOk};
 ghost use Rattle.std.specs.Result.{result_err};
 ghost use Rattle.lethe_base.specs.declared.call.Call.TheVariants.{Work};
 ghost use Rattle.lethe_base.specs.History.{History};
@@ -12,8 +12,10 @@ ghost use Rattle.lethe_core.specs.Asked.{Serves, behind};
 ghost use Rattle.lethe_core.specs.Jobs.{IsAtWork, IsInFlight, IsWhole};
 ghost use Rattle.lethe_core.specs.Running.{IsSound};
 ghost use Rattle.lethe_core.specs.View.{view_of};
-ghost use Rattle.lethe_engine.specs.StandsFor.{Opened, StandsSince};
+ghost use Rattle.lethe_cert.specs.declared.certificate.Certificate.{Certificate};
+ghost use Rattle.lethe_engine.specs.StandsFor.{Opened, StandsFor};
 ghost use Rattle.lethe_drive.specs.Answers.{IsInstall, IsWriteOut};
+ghost use Rattle.lethe_drive.specs.Certificates.{certificates_of};
 ghost use Rattle.lethe_drive.specs.Driving.{IsPinnedKept, IsTheirs, IsWritingOn, pages_left};
 ghost use Rattle.lethe_drive.specs.Moments.{IsKnown, going_of, moment_of, there_of};
 ghost use Rattle.lethe_drive.specs.Steps.{IsStep};
@@ -35,11 +37,13 @@ pub(crate) fn begin<D: Disk>(engine: &mut Engine<D>, alloc: Global, jobs: &mut J
     requires room { jobs.old.begun < 2 ^ 63 }
     ensures sound { IsSound D.tells (view_of engine.new.core) }
     ensures jobs { IsTheirs D.tells (view_of engine.new.core) jobs.new }
-    ensures step { D.tells → (config : Fields) (opened : Opened) (h : History) → StandsSince config opened h (view_of engine.old.core) → (s : Stored) → IsKnown config h (view_of engine.old.core) s → (fetches faults : ℕ) (snapshots : List ℕ)
-        → (g : History) × (t : Stored) × IsKnown config g (view_of engine.new.core) t × StandsSince config opened g (view_of engine.new.core)
+    ensures step { D.tells → (config : Fields) (opened : Opened) (h : History) (answered : List Certificate) → StandsFor config opened h (view_of engine.old.core) answered → (s : Stored) → IsKnown config h (view_of engine.old.core) s → (fetches faults : ℕ) (snapshots : List ℕ)
+        → (g : History) × (t : Stored) × IsKnown config g (view_of engine.new.core) t × StandsFor config opened g (view_of engine.new.core) answered
         × IsStep D.ports_fail h (moment_of (view_of engine.old.core) s fetches faults jobs.old.begun (there_of jobs.old) snapshots) event.Begin result g (moment_of (view_of engine.new.core) t fetches faults jobs.new.begun (there_of jobs.new) snapshots) }
     ensures rounds { engine.new.core.begun.rounds ≡ engine.old.core.begun.rounds }
     ensures pinned { D.tells → IsPinnedKept (view_of engine.old.core) (view_of engine.new.core) }
+    ensures certificates { engine.new.certificates ≡ engine.old.certificates }
+    ensures none { certificates_of result ≡ [] }
     ensures faults { D.faults engine.old.core.disk ≤ D.faults engine.new.core.disk }
     ensures begun { jobs.new.begun ≤ jobs.old.begun + 1 }
 {
@@ -65,11 +69,13 @@ pub(crate) fn write_out<D: Disk>(
     requires jobs { IsTheirs D.tells (view_of engine.old.core) jobs.old }
     ensures sound { IsSound D.tells (view_of engine.new.core) }
     ensures jobs { IsTheirs D.tells (view_of engine.new.core) jobs.new }
-    ensures step { D.tells → (config : Fields) (opened : Opened) (h : History) → StandsSince config opened h (view_of engine.old.core) → (s : Stored) → IsKnown config h (view_of engine.old.core) s → (fetches faults : ℕ) (snapshots : List ℕ)
-        → (g : History) × (t : Stored) × IsKnown config g (view_of engine.new.core) t × StandsSince config opened g (view_of engine.new.core)
+    ensures step { D.tells → (config : Fields) (opened : Opened) (h : History) (answered : List Certificate) → StandsFor config opened h (view_of engine.old.core) answered → (s : Stored) → IsKnown config h (view_of engine.old.core) s → (fetches faults : ℕ) (snapshots : List ℕ)
+        → (g : History) × (t : Stored) × IsKnown config g (view_of engine.new.core) t × StandsFor config opened g (view_of engine.new.core) answered
         × IsStep D.ports_fail h (moment_of (view_of engine.old.core) s fetches faults jobs.old.begun (there_of jobs.old) snapshots) (event.WriteOut number) result g (moment_of (view_of engine.new.core) t fetches faults jobs.new.begun (there_of jobs.new) snapshots) }
     ensures rounds { engine.new.core.begun.rounds ≡ engine.old.core.begun.rounds }
     ensures pinned { D.tells → IsPinnedKept (view_of engine.old.core) (view_of engine.new.core) }
+    ensures certificates { engine.new.certificates ≡ engine.old.certificates }
+    ensures none { certificates_of result ≡ [] }
     ensures faults { D.faults engine.old.core.disk ≤ D.faults engine.new.core.disk }
     ensures begun { jobs.new.begun ≡ jobs.old.begun }
 {
@@ -102,13 +108,14 @@ fn write_next<D: Disk>(
     // Once its outputs are made nothing is read.
     ensures read { IsSome job.old.made → (before now : ℕ) → IsErrOf result (ReadFault before now) → ⊥ }
     ensures made { OnOk result (IsSome job.new.made) }
-    ensures step { D.tells → (config : Fields) (opened : Opened) (h : History) → StandsSince config opened h (view_of engine.old.core) → (s : Stored) → IsKnown config h (view_of engine.old.core) s → (number fetches faults begun : ℕ) (snapshots : List ℕ)
-        → (t : Stored) × IsKnown config (behind h 0 (Serves Work) (result_err result)) (view_of engine.new.core) t × StandsSince config opened (behind h 0 (Serves Work) (result_err result)) (view_of engine.new.core)
+    ensures step { D.tells → (config : Fields) (opened : Opened) (h : History) (answered : List Certificate) → StandsFor config opened h (view_of engine.old.core) answered → (s : Stored) → IsKnown config h (view_of engine.old.core) s → (number fetches faults begun : ℕ) (snapshots : List ℕ)
+        → (t : Stored) × IsKnown config (behind h 0 (Serves Work) (result_err result)) (view_of engine.new.core) t × StandsFor config opened (behind h 0 (Serves Work) (result_err result)) (view_of engine.new.core) answered
         × IsWriteOut D.ports_fail (going_of number job.old) h (moment_of (view_of engine.old.core) s fetches faults begun (Some (going_of number job.old)) snapshots) result
         (behind h 0 (Serves Work) (result_err result)) (moment_of (view_of engine.new.core) t fetches faults begun (Some (going_of number job.new)) snapshots) }
     ensures rounds { engine.new.core.begun.rounds ≡ engine.old.core.begun.rounds }
     ensures pins { engine.new.core.pins ≡ engine.old.core.pins }
     ensures pinned { D.tells → IsPinnedKept (view_of engine.old.core) (view_of engine.new.core) }
+    ensures certificates { engine.new.certificates ≡ engine.old.certificates }
     ensures faults { D.faults engine.old.core.disk ≤ D.faults engine.new.core.disk }
 {
     match job.next_piece(alloc)? {
@@ -131,11 +138,13 @@ pub(crate) fn install<D: Disk>(
     requires jobs { IsTheirs D.tells (view_of engine.old.core) jobs.old }
     ensures sound { IsSound D.tells (view_of engine.new.core) }
     ensures jobs { IsTheirs D.tells (view_of engine.new.core) jobs.new }
-    ensures step { D.tells → (config : Fields) (opened : Opened) (h : History) → StandsSince config opened h (view_of engine.old.core) → (s : Stored) → IsKnown config h (view_of engine.old.core) s → (fetches faults : ℕ) (snapshots : List ℕ)
-        → (g : History) × (t : Stored) × IsKnown config g (view_of engine.new.core) t × StandsSince config opened g (view_of engine.new.core)
+    ensures step { D.tells → (config : Fields) (opened : Opened) (h : History) (answered : List Certificate) → StandsFor config opened h (view_of engine.old.core) answered → (s : Stored) → IsKnown config h (view_of engine.old.core) s → (fetches faults : ℕ) (snapshots : List ℕ)
+        → (g : History) × (t : Stored) × IsKnown config g (view_of engine.new.core) t × StandsFor config opened g (view_of engine.new.core) answered
         × IsStep D.ports_fail h (moment_of (view_of engine.old.core) s fetches faults jobs.old.begun (there_of jobs.old) snapshots) (event.Install number) result g (moment_of (view_of engine.new.core) t fetches faults jobs.new.begun (there_of jobs.new) snapshots) }
     ensures rounds { engine.new.core.begun.rounds ≡ engine.old.core.begun.rounds }
     ensures pinned { D.tells → IsPinnedKept (view_of engine.old.core) (view_of engine.new.core) }
+    ensures certificates { engine.new.certificates ≡ engine.old.certificates }
+    ensures none { certificates_of result ≡ [] }
     ensures faults { D.faults engine.old.core.disk ≤ D.faults engine.new.core.disk }
     ensures begun { jobs.new.begun ≡ jobs.old.begun }
 {
@@ -162,14 +171,15 @@ fn install_whole<D: Disk>(
     requires none { jobs.old.there ≡ None }
     ensures sound { IsSound D.tells (view_of engine.new.core) }
     ensures jobs { IsTheirs D.tells (view_of engine.new.core) jobs.new }
-    ensures step { D.tells → (config : Fields) (opened : Opened) (h : History) → StandsSince config opened h (view_of engine.old.core) → (s : Stored) → IsKnown config h (view_of engine.old.core) s → (fetches faults : ℕ) (snapshots : List ℕ)
-        → (t : Stored) × IsKnown config (behind h 0 (Serves Work) (result_err result)) (view_of engine.new.core) t × StandsSince config opened (behind h 0 (Serves Work) (result_err result)) (view_of engine.new.core)
+    ensures step { D.tells → (config : Fields) (opened : Opened) (h : History) (answered : List Certificate) → StandsFor config opened h (view_of engine.old.core) answered → (s : Stored) → IsKnown config h (view_of engine.old.core) s → (fetches faults : ℕ) (snapshots : List ℕ)
+        → (t : Stored) × IsKnown config (behind h 0 (Serves Work) (result_err result)) (view_of engine.new.core) t × StandsFor config opened (behind h 0 (Serves Work) (result_err result)) (view_of engine.new.core) answered
         × IsInstall D.ports_fail (going_of numbered.number numbered.job) h
         (moment_of (view_of engine.old.core) s fetches faults jobs.old.begun (Some (going_of numbered.number numbered.job)) snapshots) result
         (behind h 0 (Serves Work) (result_err result)) (moment_of (view_of engine.new.core) t fetches faults jobs.new.begun (there_of jobs.new) snapshots) }
     ensures begun { jobs.new.begun ≡ jobs.old.begun }
     ensures rounds { engine.new.core.begun.rounds ≡ engine.old.core.begun.rounds }
     ensures pinned { D.tells → IsPinnedKept (view_of engine.old.core) (view_of engine.new.core) }
+    ensures certificates { engine.new.certificates ≡ engine.old.certificates }
     ensures faults { D.faults engine.old.core.disk ≤ D.faults engine.new.core.disk }
 {
     let Numbered { number, mut job } = numbered;
@@ -202,12 +212,13 @@ fn write_rest<D: Disk>(
     ensures refused { OnErr result (job.new.refused ≡ true) }
     ensures task { job.new.task.value ≡ job.old.task.value }
     ensures round { job.new.round ≡ job.old.round }
-    ensures step { D.tells → (config : Fields) (opened : Opened) (h : History) → StandsSince config opened h (view_of engine.old.core) → (s : Stored) → IsKnown config h (view_of engine.old.core) s
-        → (t : Stored) × IsKnown config (behind h 0 (Serves Work) (result_err result)) (view_of engine.new.core) t × StandsSince config opened (behind h 0 (Serves Work) (result_err result)) (view_of engine.new.core)
+    ensures step { D.tells → (config : Fields) (opened : Opened) (h : History) (answered : List Certificate) → StandsFor config opened h (view_of engine.old.core) answered → (s : Stored) → IsKnown config h (view_of engine.old.core) s
+        → (t : Stored) × IsKnown config (behind h 0 (Serves Work) (result_err result)) (view_of engine.new.core) t × StandsFor config opened (behind h 0 (Serves Work) (result_err result)) (view_of engine.new.core) answered
         × IsWritingOn D.ports_fail (view_of engine.old.core) (view_of engine.new.core) (D.port_faults job.old.port) (D.port_faults job.new.port) s t result }
     ensures rounds { engine.new.core.begun.rounds ≡ engine.old.core.begun.rounds }
     ensures pins { engine.new.core.pins ≡ engine.old.core.pins }
     ensures pinned { D.tells → IsPinnedKept (view_of engine.old.core) (view_of engine.new.core) }
+    ensures certificates { engine.new.certificates ≡ engine.old.certificates }
     ensures faults { D.faults engine.old.core.disk ≤ D.faults engine.new.core.disk }
 {
     while write_next(engine, alloc, job)? {}
@@ -220,11 +231,13 @@ pub(crate) fn cancel<D: Disk>(engine: &mut Engine<D>, jobs: &mut Jobs<D>, number
     requires jobs { IsTheirs D.tells (view_of engine.old.core) jobs.old }
     ensures sound { IsSound D.tells (view_of engine.new.core) }
     ensures jobs { IsTheirs D.tells (view_of engine.new.core) jobs.new }
-    ensures step { D.tells → (config : Fields) (opened : Opened) (h : History) → StandsSince config opened h (view_of engine.old.core) → (s : Stored) → IsKnown config h (view_of engine.old.core) s → (fetches faults : ℕ) (snapshots : List ℕ)
-        → (g : History) × (t : Stored) × IsKnown config g (view_of engine.new.core) t × StandsSince config opened g (view_of engine.new.core)
+    ensures step { D.tells → (config : Fields) (opened : Opened) (h : History) (answered : List Certificate) → StandsFor config opened h (view_of engine.old.core) answered → (s : Stored) → IsKnown config h (view_of engine.old.core) s → (fetches faults : ℕ) (snapshots : List ℕ)
+        → (g : History) × (t : Stored) × IsKnown config g (view_of engine.new.core) t × StandsFor config opened g (view_of engine.new.core) answered
         × IsStep D.ports_fail h (moment_of (view_of engine.old.core) s fetches faults jobs.old.begun (there_of jobs.old) snapshots) (event.Cancel number) result g (moment_of (view_of engine.new.core) t fetches faults jobs.new.begun (there_of jobs.new) snapshots) }
     ensures rounds { engine.new.core.begun.rounds ≡ engine.old.core.begun.rounds }
     ensures pinned { D.tells → IsPinnedKept (view_of engine.old.core) (view_of engine.new.core) }
+    ensures certificates { engine.new.certificates ≡ engine.old.certificates }
+    ensures none { certificates_of result ≡ [] }
     ensures faults { D.faults engine.old.core.disk ≤ D.faults engine.new.core.disk }
     ensures begun { jobs.new.begun ≡ jobs.old.begun }
 {

@@ -72,6 +72,7 @@ impl<D: Disk> Engine<D> {
         ensures fetched { (name : Name) → IsErrOf result (Damaged name) → D.fetches port.old < D.fetches port.new }
         ensures fetches { D.fetches port.old ≤ D.fetches port.new }
         ensures certificates { self.new.certificates ≡ self.old.certificates }
+        ensures pins { self.new.core.pins ≡ self.old.core.pins }
     {
         self.core.state.may_change()?;
         let before = self.core.disk.faults();
@@ -122,6 +123,7 @@ impl<D: Disk> Engine<D> {
         ensures fetched { (name : Name) → IsErrOf result (Damaged name) → D.fetches port.old < D.fetches port.new }
         ensures fetches { D.fetches port.old ≤ D.fetches port.new }
         ensures certificates { self.new.certificates ≡ self.old.certificates }
+        ensures pins { self.new.core.pins ≡ self.old.core.pins }
     {
         self.core.state.may_change()?;
         let before = self.core.disk.faults();
@@ -171,6 +173,7 @@ impl<D: Disk> Engine<D> {
         ensures fetched { (name : Name) → IsErrOf result (Damaged name) → D.fetches port.old < D.fetches port.new }
         ensures fetches { D.fetches port.old ≤ D.fetches port.new }
         ensures certificates { self.new.certificates ≡ self.old.certificates }
+        ensures pins { self.new.core.pins ≡ self.old.core.pins }
     {
         self.core.state.may_change()?;
         let before = self.core.disk.faults();

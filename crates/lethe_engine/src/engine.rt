@@ -57,6 +57,7 @@ impl<D: Disk> Engine<D> {
         ensures runs { IfOk result (λ engine. engine.core.state.stopped ≡ None) }
         ensures face { IfOk result (λ engine. face_of (view_of engine.core) ≡ no_jobs) }
         ensures certificates { IfOk result (λ engine. engine.certificates.items ≡ []) }
+        ensures nothing { IfOk result (λ engine. ((view_of engine.core).retired ≡ []) × ((view_of engine.core).pins ≡ record { pins = []; made = 0 })) }
 
         // What is stored is a new store where there was no gate, and else what the directory encoded, with the journal in files.
         ensures opened { D.tells → IfOk result (λ engine. (t : Stored) × Holds (view_of engine.core) t × IsOpenedAs config.now (D.seen disk).directory t) }
@@ -123,6 +124,7 @@ impl<D: Disk> Engine<D> {
         ensures retired { self.new.core.retired ≡ self.old.core.retired }
         ensures faults { D.faults self.new.core.disk ≡ D.faults self.old.core.disk }
         ensures certificates { self.new.certificates ≡ self.old.certificates }
+        ensures pins { self.new.core.pins ≡ self.old.core.pins }
     {
         self.core.disk.port(alloc)
     }

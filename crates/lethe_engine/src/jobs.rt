@@ -60,6 +60,7 @@ impl<D: Disk> Engine<D> {
         ensures idle { D.tells → IsIdle (D.seen self.old.core.disk) (D.seen self.new.core.disk) }
         ensures faults { D.faults self.new.core.disk ≡ D.faults self.old.core.disk }
         ensures certificates { self.new.certificates ≡ self.old.certificates }
+        ensures pins { self.new.core.pins ≡ self.old.core.pins }
     {
         if let Some(at) = self.core.state.stopped() {
             return Err(Refused::Stopped { at });
@@ -109,6 +110,7 @@ impl<D: Disk> Engine<D> {
         ensures exhausted { self.old.core.state.stopped ≡ None → IsInFlight (view_of self.old.core) job.old → self.old.core.state.count ≡ max_place
             → IsErrOf result (refused.Exhausted max_place) × (self.new ≡ self.old) }
         ensures certificates { self.new.certificates ≡ self.old.certificates }
+        ensures pins { self.new.core.pins ≡ self.old.core.pins }
     {
         // The piece says only that this page is the next one.
         drop(piece);
@@ -155,6 +157,7 @@ impl<D: Disk> Engine<D> {
         ensures exhausted { self.old.core.state.stopped ≡ None → IsInFlight (view_of self.old.core) job.now → self.old.core.state.count ≡ max_place
             → IsErrOf result (refused.Exhausted max_place) × (self.new ≡ self.old) }
         ensures certificates { self.new.certificates ≡ self.old.certificates }
+        ensures pins { self.new.core.pins ≡ self.old.core.pins }
     {
         self.check_round(job)?;
         self.core.state.may_change()?;
@@ -193,6 +196,7 @@ impl<D: Disk> Engine<D> {
         ensures exhausted { self.old.core.state.stopped ≡ None → IsInFlight (view_of self.old.core) job → self.old.core.state.count ≡ max_place
             → IfErr result (λ back. back.1 ≡ refused.Exhausted max_place) × OnOk result ⊥ × (self.new ≡ self.old) }
         ensures certificates { self.new.certificates ≡ self.old.certificates }
+        ensures pins { self.new.core.pins ≡ self.old.core.pins }
     {
         let mut job = job;
         match self.install_whole(alloc, &mut job) {
@@ -222,6 +226,7 @@ impl<D: Disk> Engine<D> {
         ensures exhausted { self.old.core.state.stopped ≡ None → IsInFlight (view_of self.old.core) job.old → self.old.core.state.count ≡ max_place
             → IsErrOf result (refused.Exhausted max_place) × (self.new ≡ self.old) }
         ensures certificates { self.new.certificates ≡ self.old.certificates }
+        ensures pins { self.new.core.pins ≡ self.old.core.pins }
     {
         self.check_round(job)?;
         self.core.state.may_change()?;
@@ -254,6 +259,7 @@ impl<D: Disk> Engine<D> {
         ensures exhausted { (last : ℕ) → IsErrOf result (refused.Exhausted last) → ⊥ }
         ensures stopped { (at : ℕ) → self.old.core.state.stopped ≡ Some at → IsErrOf result (refused.Stopped at) × (self.new.core.state ≡ self.old.core.state) }
         ensures certificates { self.new.certificates ≡ self.old.certificates }
+        ensures pins { self.new.core.pins ≡ self.old.core.pins }
     {
         if job.round() < self.rounds() {
             if let Some(at) = self.core.state.stopped() {

@@ -24,6 +24,7 @@ impl<D: Disk> Engine<D> {
         requires { IsSound D.tells (view_of self.old.core) }
         ensures answers { AnswersRow D.tells asked.old.items asked.new.items result.done result.refused (view_of self.old.core) (view_of self.new.core) }
         ensures certificates { self.new.certificates ≡ self.old.certificates }
+        ensures pins { self.new.core.pins ≡ self.old.core.pins }
     {
         if self.core.state.stopped().is_some() {
             return Row {

@@ -94,6 +94,7 @@ impl<D: Disk> Engine<D> {
 
         // Behind it what is stored and pages that held pins name lie in the directory, and nothing else; on any disk no other page is retired.
         ensures named { OnOk result (AreNamed (view_of self.new.core).pins.pins (view_of self.new.core).retired) }
+        ensures pins { self.new.core.pins ≡ self.old.core.pins }
 
         // A refusal has its reason. A store that is stopped, or whose clock is ahead, or whose places or rounds are used up, or that a pin bars, is as it was.
         ensures why { IfErr result (HasReasonOfTick D.tells D.ports_fail to (view_of self.old.core) (view_of self.new.core) (D.port_faults port.old) (D.port_faults port.new)) }

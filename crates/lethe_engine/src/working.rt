@@ -42,6 +42,7 @@ impl<D: Disk> Engine<D> {
         ensures stopped { (at : ℕ) → self.old.core.state.stopped ≡ Some at → IsErrOf result (Stopped at) × (self.new ≡ self.old) }
         ensures exhausted { self.old.core.state.stopped ≡ None → (HasNoFreeze self.old.core.state → ⊥) → self.old.core.state.count ≡ max_place → IsErrOf result (Exhausted max_place) × (self.new ≡ self.old) }
         ensures certificates { self.new.certificates ≡ self.old.certificates }
+        ensures pins { self.new.core.pins ≡ self.old.core.pins }
     {
         if let Some(at) = self.core.state.stopped() {
             return Err(Refused::Stopped { at });
@@ -80,6 +81,7 @@ impl<D: Disk> Engine<D> {
         ensures stopped { (at : ℕ) → self.old.core.state.stopped ≡ Some at → IsErrOf result (Stopped at) × (self.new ≡ self.old) }
         ensures exhausted { self.old.core.state.stopped ≡ None → (HasNoFlush self.old.core.state → ⊥) → self.old.core.state.count ≡ max_place → IsErrOf result (Exhausted max_place) × (self.new ≡ self.old) }
         ensures certificates { self.new.certificates ≡ self.old.certificates }
+        ensures pins { self.new.core.pins ≡ self.old.core.pins }
     {
         if let Some(at) = self.core.state.stopped() {
             return Err(Refused::Stopped { at });

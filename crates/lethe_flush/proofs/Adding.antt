@@ -2,12 +2,14 @@
 use Rattle.std.proofs.Common.{◌≡◌, ◌≢◌, ◌⊎◌, inl, inr, ℕ, ◌+◌, ◌-◌, ◌<◌, ◌≤◌, List, [], ◌∷◌, ◌++◌, length, map, take, drop, All, Contains, IsPermutation, refl, sym, ap, ◌∙◌, subst, append_assoc, append-nil, length-append, length-drop, arith}
 use Rattle.std.specs.Prelude.{flat_map, sum_by}
 use Rattle.std.specs.List.{AllZip, range_with_len, zip}
-use Rattle.std.proofs.lemmas.List.{length-map, map-append, take-append-drop}
+use Rattle.std.proofs.Math.Seq.{drop-nil, take-append_seam, take-nil}
+use Rattle.std.proofs.lemmas.List.{length-map, map-append, nil_from_length, take-append-drop, take_all}
 use Rattle.std.proofs.lemmas.List.Concat.{flat_map-append}
 use Rattle.std.proofs.lemmas.List.Elements.{All-append, All-cons, All-contains, All-drop, All-head, All-nil, All-push, All-tail, All-take, All-weaker, Contains-append_cases}
 use Rattle.std.proofs.lemmas.List.FromFn.{length-range_with_len}
 use Rattle.std.proofs.lemmas.List.Sorted.{IsPermutation-append_comm, IsPermutation-append_left, IsPermutation-append_right, IsPermutation-refl, IsPermutation-trans, IsPermutation-middle, IsPermutation-sym}
 use Rattle.std.proofs.lemmas.List.Sums.{sum_by-cons}
+use Rattle.std.proofs.lemmas.Simd.{map-map}
 use Rattle.std.proofs.lemmas.Slice.Zip.{all_zipped_more, length-zip}
 use Rattle.lethe_advance.specs.Settled.{AreDrawn}
 use Rattle.lethe_advance.specs.Steps.{new_header}
@@ -18,7 +20,7 @@ use Rattle.lethe_build.specs.Drafts.{IsDraft, numbers_for}
 use Rattle.lethe_build.specs.declared.draft.Draft.{Draft}
 use Rattle.lethe_build.proofs.Numbering.{draft_numbers}
 use Rattle.lethe_commit.specs.declared.objects.Object.{Object}
-use Rattle.lethe_cover.proofs.Common.{⊎_elim, Contains-append_left, Contains-append_right, none_in}
+use Rattle.lethe_cover.proofs.Common.{⊎_elim, cases_lt, Contains-append_left, Contains-append_right, none_in}
 use Rattle.lethe_cover.proofs.Lists.{Pairs, all_from, in_map, map_from, only_in, pairs_append, pairs_parts, pairs_to, pairs_unmap}
 use Rattle.lethe_file.specs.Agreement.{page_name}
 use Rattle.lethe_header.specs.Headers as headers
@@ -46,6 +48,43 @@ taken drafts written = map number_in (take (length (pages_in drafts)) written)
 abbrev IsDrawn : ℕ → ℕ → ℕ → Type 0
 IsDrawn first next number = (first ≤ number) × (number < next)
 
+-- the numbers begin with those that were taken, and are these alone as long as names are left
+pub record Begins (numbers taken : List ℕ) (left : List Name) : Type 0 where
+  pub more : List ℕ
+  pub are : numbers ≡ taken ++ more
+  pub alone : (more ≡ []) ⊎ (left ≡ [])
+
+module _ (numbers taken : List ℕ) (left : List Name) (pages : List (List ℕ)) (next : ℕ) (is : Begins numbers taken left) where
+  abbrev own : List ℕ
+  own = map number_in (take (length pages) left)
+
+  abbrev new : List ℕ
+  new = range_with_len next (length pages - length left)
+
+  spent : (new ≡ []) ⊎ (drop (length pages) left ≡ [])
+  spent = elim (cases_lt (length left) (length pages)) [
+    | inl few ↦ inr (nil_from_length (drop (length pages) left) (omega (arith, few, length-drop (length pages) left)))
+    | inr all ↦ inl (let none : length pages - length left ≡ 0 = omega (arith, all) in ap (range_with_len next) none)
+  ]
+
+  begins_by : (is.more ≡ []) ⊎ (left ≡ []) → Begins (numbers ++ (own ++ new)) (taken ++ own) (drop (length pages) left)
+  begins_by (inl none) = record {
+    more = new;
+    are = ap (λ (l : List ℕ). l ++ (own ++ new)) (is.are ∙ ap (λ (l : List ℕ). taken ++ l) none ∙ append-nil taken) ∙ sym (append_assoc taken own new);
+    alone = spent;
+  }
+  begins_by (inr none) =
+      let empty : own ≡ [] = ap (λ (l : List Name). map number_in (take (length pages) l)) none ∙ ap (map number_in) (take-nil {A = Name} (length pages)) in
+      record {
+        more = is.more ++ new;
+        are = (λ i. is.are i ++ (empty i ++ new)) ∙ append_assoc taken is.more new
+            ∙ ap (λ (l : List ℕ). l ++ (is.more ++ new)) (sym (ap (λ (l : List ℕ). taken ++ l) empty ∙ append-nil taken));
+        alone = inr (ap (drop (length pages)) none ∙ drop-nil {A = Name} (length pages));
+      }
+
+  begins_more : Begins (numbers ++ (own ++ new)) (taken ++ own) (drop (length pages) left)
+  begins_more = begins_by is.alone
+
 pub record AreAdded (drafts : List Draft) (level upto : ℕ) (written : List Name) (first : ℕ) (made : MadeFiles) (files : List StoredFile) : Type 0 where
   pub each : AllZip IsOfDraft drafts files
   pub level_is : All (λ file. file.level ≡ level) files
@@ -61,6 +100,7 @@ pub record AreAdded (drafts : List Draft) (level upto : ℕ) (written : List Nam
   pub headers_ascend : Pairs (λ a b. a.header.no < b.header.no) files
   pub lines : All (λ number. Contains (taken drafts written) number ⊎ IsDrawn first made.next number) (numbers_in files)
   pub lines_once : Pairs Differ (numbers_in files)
+  pub firsts : Begins (numbers_in files) (taken drafts written) (drop (length (pages_in drafts)) written)
 
 pub flat-push : {X A : Type 0} (f : X → List A) (xs : List X) (x : X) → flat_map f (xs ++ x ∷ []) ≡ flat_map f xs ++ f x
 flat-push f xs x = flat_map-append f xs (x ∷ []) ∙ ap (λ l. flat_map f xs ++ l) (append-nil (f x))
@@ -81,6 +121,7 @@ none_added level upto written first made heads objects cites next = record {
   headers_ascend = tt;
   lines = All-nil (λ (number : ℕ). Contains (taken [] written) number ⊎ IsDrawn first made.next number);
   lines_once = tt;
+  firsts = record { more = []; are = refl; alone = inl refl };
 }
   where
     none : (written : List Name) → zip {X = List ℕ} written [] ≡ []
@@ -265,6 +306,15 @@ module _ (drafts : List Draft) (draft : Draft) (is : IsDraft draft) (level upto 
         (all_from (IsThen last) (map number_in mine) (λ number there. inl (subst (λ all. Contains all number) (sym taken_are) (Contains-append_right (map number_in before) (map number_in mine) number there))))
         (all_from (IsThen last) range (λ number there. let found = range_from old.next (length draft.pages - length rest) number there in inr (omega (arith, found.0, are.from), omega (arith, found.1, is))))))
 
+    firsts_then : Begins (numbers_in (files ++ next ∷ [])) (taken (drafts ++ draft ∷ []) written) (drop (length (pages_in (drafts ++ draft ∷ []))) written)
+    firsts_then =
+        let left : drop (length (pages_in (drafts ++ draft ∷ []))) written ≡ drop (length draft.pages) rest =
+        ap (λ (pages : List (List ℕ)). drop (length pages) written) pages_are ∙ drop_parts written (pages_in drafts) draft.pages in
+        subst (λ (numbers : List ℕ). Begins numbers (taken (drafts ++ draft ∷ []) written) (drop (length (pages_in (drafts ++ draft ∷ []))) written)) (sym numbers_are)
+        (subst (λ (before : List ℕ). Begins (numbers_in files ++ (map number_in mine ++ range)) before (drop (length (pages_in (drafts ++ draft ∷ []))) written)) (sym taken_are)
+        (subst (Begins (numbers_in files ++ (map number_in mine ++ range)) (map number_in before ++ map number_in mine)) (sym left)
+        (begins_more (numbers_in files) (taken drafts written) rest draft.pages old.next are.firsts)))
+
     pub one_added : (new : MadeFiles) → IsAdded next (pages_by old.next draft rest) old new → AreAdded (drafts ++ draft ∷ []) level upto written first new (files ++ next ∷ [])
     one_added new added = record {
       each = all_zipped_more IsOfDraft drafts files draft next are.each (file_is draft is level upto first old.next rest rest_each);
@@ -295,12 +345,23 @@ module _ (drafts : List Draft) (draft : Draft) (is : IsDraft draft) (level upto 
           omega (arith, low, ap (λ (file : StoredFile). file.header.no) same));
       lines = lines_then new.next added.next;
       lines_once = lines_once_then;
+      firsts = firsts_then;
     }
 
+-- where no name is left the pages' names begin with all of them
+written_first : (first : ℕ) (written : List Name) → AreDrawn first written → (pages : List (List ℕ)) → length written ≤ length pages → (lines : List PageLine)
+    → Begins (map line_number lines) (map number_in (take (length pages) written)) (drop (length pages) written) → take (length written) (map (λ (line : PageLine). page_name line.no) lines) ≡ written
+written_first first written drawn pages few lines is =
+    let names : map (λ (line : PageLine). page_name line.no) lines ≡ written ++ map page_name is.more =
+    sym (map-map page_name line_number lines) ∙ ap (map page_name) is.are ∙ map-append page_name (map number_in (take (length pages) written)) is.more
+    ∙ ap (λ (l : List Name). map page_name (map number_in l) ++ map page_name is.more) (take_all (length pages) written few)
+    ∙ ap (λ (l : List Name). l ++ map page_name is.more) (pages_again first written drawn.each) in
+    ap (take (length written)) names ∙ take-append_seam written (map page_name is.more)
+
 -- all of them
-pub all_added : (drafts : List Draft) (level upto : ℕ) (written : List Name) (first : ℕ) (made : MadeFiles) (files : List StoredFile) → AreDrawn first written → AreAdded drafts level upto written first made files
-    → AreFilesOf drafts level upto written first made files
-all_added drafts level upto written first made files drawn are = record {
+pub all_added : (drafts : List Draft) (level upto : ℕ) (written : List Name) (first : ℕ) (made : MadeFiles) (files : List StoredFile) → AreDrawn first written
+    → length written ≤ length (pages_in drafts) → AreAdded drafts level upto written first made files → AreFilesOf drafts level upto written first made files
+all_added drafts level upto written first made files drawn few are = record {
   each = are.each;
   level_is = are.level_is;
   swept = are.swept;
@@ -317,6 +378,7 @@ all_added drafts level upto written first made files drawn are = record {
       (λ number. ⊎_elim (λ there. inl (in_first (length (pages_in drafts)) written (page_name number) (name_there first (take (length (pages_in drafts)) written) (All-take (λ (name : Name). (name.kind ≡ Page) × (name.no < first)) (length (pages_in drafts)) written drawn.each) number there))) (λ fresh. inr fresh))
       (numbers_in files) are.lines);
   lines_once = pairs_to (λ (a b : PageLine). a.no ≢ b.no) (flat_map lines_in files) (pairs_unmap Differ line_number (flat_map lines_in files) are.lines_once);
+  firsts = written_first first written drawn (pages_in drafts) few (flat_map lines_in files) are.firsts;
 }
 
 -- so far: files of the first of all drafts, where these are left
@@ -391,4 +453,6 @@ pub ended : (all drafts rest : List Draft) (level upto : ℕ) (written left : Li
     → (files : List StoredFile) × AreFilesOf all level upto written first made files
 ended all drafts behind level upto written names first made drawn so_far none =
     let whole : drafts ≡ all = sym (append-nil drafts) ∙ ap (λ (behind : List Draft). drafts ++ behind) (sym none) ∙ so_far.whole in
-    (so_far.files, subst (λ (drafts : List Draft). AreFilesOf drafts level upto written first made so_far.files) whole (all_added drafts level upto written first made so_far.files drawn so_far.are))
+    let few : length written ≤ length (pages_in drafts) =
+    omega (arith, so_far.few, ap (λ (rest : List Draft). length (pages_in rest)) none, ap length so_far.left_is, length-drop (length (pages_in drafts)) written) in
+    (so_far.files, subst (λ (drafts : List Draft). AreFilesOf drafts level upto written first made so_far.files) whole (all_added drafts level upto written first made so_far.files drawn few so_far.are))

@@ -35,8 +35,9 @@ pub record IsOfDraft (draft : Draft) (file : StoredFile) : Type 0 where
   pub tiles : file.header.tiles ≡ with_numbers numbers draft.tiles
   pub pages : file.pages ≡ draft.pages
 
--- The drafts' files of a level, swept up to a place, and how they are written and cited. The first of their pages were written before; of the
--- others, and of the headers, each is an object, in whatever order. Their numbers are drawn from the first on, and the headers' ascend.
+-- The drafts' files of a level, swept up to a place, and how they are written and cited. The first of their pages were written before, under
+-- these names, in order; of the others, and of the headers, each is an object, in whatever order. Their numbers are drawn from the first on, and
+-- the headers' ascend.
 pub record AreFilesOf (drafts : List Draft) (level upto : ℕ) (written : List Name) (first : ℕ) (made : MadeFiles) (files : List StoredFile) : Type 0 where
   pub each : AllZip IsOfDraft drafts files
   pub level_is : All (λ file. file.level ≡ level) files
@@ -51,3 +52,4 @@ pub record AreFilesOf (drafts : List Draft) (level upto : ℕ) (written : List N
   pub headers_ascend : AllPairs (λ a b. a.header.no < b.header.no) files
   pub lines : All (λ line. Contains written (page_name line.no) ⊎ ((first ≤ line.no) × (line.no < made.next))) (flat_map lines_in files)
   pub lines_once : AllPairs (λ a b. a.no ≢ b.no) (flat_map lines_in files)
+  pub firsts : take (length written) (map (λ line. page_name line.no) (flat_map lines_in files)) ≡ written

@@ -27,7 +27,7 @@ use Rattle.lethe_sweep_task.specs.Outcome.{IsDraftLeft, PlainSweep}
 use Rattle.lethe_swept.specs.declared.draft.SweptDraft.{SweptDraft}
 use Rattle.lethe_sweeps.specs.Swept.{StoredSweep}
 use Rattle.lethe_install.specs.Installed.{IsInstallStep}
-use Rattle.lethe_install.specs.Outcomes.{IsSweptBy}
+use Rattle.lethe_install.specs.Outcomes.{IsSweepInstalled}
 use Rattle.lethe_install.specs.Replaced.{IsReplaced}
 use Rattle.lethe_install.specs.declared.inputs.Inputs.{Inputs}
 use Rattle.lethe_install.specs.declared.steps.Installation.{Installation}
@@ -75,7 +75,7 @@ module _ (draft_is_left : DraftIsLeft) (nothing_is_left : NothingIsLeft) (s : St
   of_file : AreMadeOf w.file.level task.erase.seq written state.next draft parts
   of_file = subst (λ (file : StoredFile). AreMadeOf file.level task.erase.seq written state.next draft parts) (sym begun.file) are
 
-  pub sweep_installs : (t : Stored) × IsSweptBy s task t
+  pub sweep_installs : (t : Stored) × IsSweepInstalled s task t
       × ((left : List (Name × List ℕ)) × IsStep s (beside ++ pages) t left installing.headers.items installing.step × (installing.left.items ≡ names_in left)
       × AreDrawn installing.step.manifest.next installing.left.items)
   sweep_installs =
@@ -84,4 +84,4 @@ module _ (draft_is_left : DraftIsLeft) (nothing_is_left : NothingIsLeft) (s : St
       let found = sweep_installed s state levels is current writable w task.erase task.alone begun.sweep retired written drawn beside pages named pages_named uncited
       parts have inputs (subst (λ (file : StoredFile). IsReplaced file parts.headers.items state.manifest.files inputs) (sym begun.file) replaced) needs installing
       (subst (λ (file : StoredFile). IsInstallStep state file.level inputs parts retired needs installing) (sym begun.file) stepped) spelled paged in
-      (found.0, record { w = w; tasked = begun; swept_is = found.1 }, found.2)
+      (found.0, record { w = w; tasked = begun; swept_is = found.1.0; file_left = found.1.1 }, found.2)

@@ -43,12 +43,14 @@ use Rattle.lethe_swept.specs.declared.part.SweptFile.{SweptFile}
 use Rattle.lethe_sweeps.specs.Swept.{AreLeft, StoredSweep}
 use Rattle.lethe_install.proofs.Named.{line_name, name_in, names_are}
 use Rattle.lethe_install.specs.Inputs.{names_of}
+use Rattle.lethe_install.specs.Outcomes.{IsFileLeft, IsFreeBelow}
 
 -- What is left of the file is made, and how it is written and cited: each of its objects is the file's own, was written before, or is written; and all that was or is written is of it.
 pub record IsMadeFor (s : Stored) (w : StoredSweep) (erase : Pending) (alone : Bool) (first : ℕ) (pages : List (Name × List ℕ)) (parts : MadeFiles) : Type 0 where
   pub made : Option StoredFile
   pub risen : first ≤ parts.next
   pub left : AreLeft s w.file erase alone parts.next (cons_option made [])
+  pub file_left : IsFileLeft s w.file erase alone parts.next made
   pub headers_are : parts.headers.items ≡ map new_header (cons_option made [])
   pub cited : parts.cited.items ≡ map cited_of (cons_option made [])
   pub objects : All (λ named. Contains (objects_in w.file) named ⊎ (Contains pages named ⊎ Contains (map named_of parts.objects.items) named))
@@ -103,6 +105,7 @@ module _ (draft_is_left : DraftIsLeft) (nothing_is_left : NothingIsLeft) (s : St
       made = None;
       risen = let next = empty.next in omega (arith, next);
       left = nothing_is_left s coherent w.file there erase alone behind swept is none parts.next;
+      file_left = record { swept = swept; is = is; made_of = none };
       headers_are = empty.headers;
       cited = empty.cited;
       objects = All-nil (λ (named : Name × List ℕ). Contains (objects_in w.file) named
@@ -161,11 +164,31 @@ module _ (draft_is_left : DraftIsLeft) (nothing_is_left : NothingIsLeft) (s : St
             (omega (arith, found.1, next), λ cited. let low = part_below s (page_name n) coherent cited in omega (arith, low, found.0, later)))
             (Contains-append_cases (map number_in written) fresh n inside)
 
+        all_new : All (IsFreeBelow s parts.next) numbers
+        all_new = all_from (IsFreeBelow s parts.next) numbers is_new
+
         left : AreLeft s w.file erase alone parts.next (file ∷ [])
         left = let next = are.next in
-            draft_is_left s coherent w.file there erase alone behind swept is draft of numbers no parts.next count_is differ
-            (all_from (λ page. (page < parts.next) × (Contains (part_names s) (page_name page) → ⊥)) numbers is_new)
+            draft_is_left s coherent w.file there erase alone behind swept is draft of numbers no parts.next count_is differ all_new
             (omega (arith, later)) (omega (arith, next)) are.spelled
+
+        file_left : IsFileLeft s w.file erase alone parts.next (Some file)
+        file_left = record {
+          swept = swept;
+          is = is;
+          made_of = record {
+            draft = draft;
+            of = of;
+            numbers = numbers;
+            count = count_is;
+            once = differ;
+            new = all_new;
+            no = no;
+            later = omega (arith, later);
+            below = let next = are.next in omega (arith, next);
+            made_is = refl;
+          };
+        }
 
         one_file : objects_of (file ∷ []) ≡ objects_in file
         one_file = append-nil (objects_in file)
@@ -248,6 +271,7 @@ module _ (draft_is_left : DraftIsLeft) (nothing_is_left : NothingIsLeft) (s : St
           made = Some file;
           risen = let next = are.next in omega (arith, next);
           left = left;
+          file_left = file_left;
           headers_are = are.headers;
           cited = are.cited;
           objects = objects;

@@ -43,6 +43,7 @@ use Rattle.lethe_sweeps.proofs.SweptStepping.{sweep_steps}
 use Rattle.lethe_install.specs.Inputs.{names_of}
 use Rattle.lethe_install.specs.Installed.{IsInstallStep}
 use Rattle.lethe_install.specs.Left.{is_among, needed_of, unneeded_of}
+use Rattle.lethe_install.specs.Outcomes.{IsFileLeft}
 use Rattle.lethe_install.specs.Placed.{with_made}
 use Rattle.lethe_install.specs.Replaced.{IsReplaced, behind, names_gone, pages_in}
 use Rattle.lethe_install.specs.declared.inputs.Inputs.{Inputs}
@@ -510,12 +511,12 @@ module _ (s : Stored) (state : State) (levels : List (List Parts)) (is : Remembe
       gone_once = subst (AllPairs Differ) (sym gone_is) (AllPairs-filter Differ unneeded names names_differ);
     }
 
-    pub sweep_installed : (t : Stored) × IsSwept s w erase alone t
+    pub sweep_installed : (t : Stored) × ((is : IsSwept s w erase alone t) × IsFileLeft s w.file erase alone is.number is.made)
         × ((left : List (Name × List ℕ)) × IsStep s loose t left headers step × (installing.left.items ≡ names_in left) × AreDrawn step.manifest.next installing.left.items)
     unfolding is_swept
     sweep_installed = (
       t,
-      is_swept,
+      (is_swept, have.file_left),
       (
         remaining,
         sweep_steps s t is.coherent coherent_then w erase alone begun is_swept loose remaining (loose_pages state.next loose loose_drawn) uncited headers step sweep_step

@@ -9,7 +9,7 @@ ghost use Rattle.lethe_advance.specs.Settled.{AreDrawn, AreUncited, names_in};
 ghost use Rattle.lethe_advance.specs.Steps.{IsStep};
 ghost use Rattle.lethe_file.specs.Agreement.{entries_in};
 ghost use Rattle.lethe_header.specs.Headers as headers;
-ghost use Rattle.lethe_install.specs.Outcomes.{IsSweptBy};
+ghost use Rattle.lethe_install.specs.Outcomes.{IsSweepInstalled};
 ghost use Rattle.lethe_install.specs.Replaced.{IsReplaced, behind, names_gone};
 ghost use Rattle.lethe_job.specs.SweepTasks.{IsSweepTask};
 ghost use Rattle.lethe_pins.specs.Held.{is_named};
@@ -75,7 +75,7 @@ pub fn installing_sweep<D: Disk>(
         → AreRising s.files → IsSweepTask s w (plain_sweep task.now) → names_in beside ≡ pages.entry.retired.now → AreUncited s (beside ++ written_pages pages.entry.written.now draft)
         → AreDrawn state.now.next (pages.entry.retired.now ++ pages.entry.written.now)
         → IsDraftLeft task.now.alone task.now.erase w.file.header.tiles (map entries_in w.file.pages) draft
-        → IfOk result (λ made. (t : Stored) × IsSweptBy s (plain_sweep task.now) t
+        → IfOk result (λ made. (t : Stored) × IsSweepInstalled s (plain_sweep task.now) t
         × ((left : prelude.List (name.Name × prelude.List ℕ)) × IsStep s (beside ++ written_pages pages.entry.written.now draft) t left made.headers.items made.step × (made.left.items ≡ names_in left)
         × AreDrawn made.step.manifest.next made.left.items)) }
 {
@@ -128,7 +128,7 @@ fn install<D: Disk>(
         → AreRising s.files → IsSweepTask s w (plain_sweep task.now) → names_in beside ≡ pages.entry.retired.now → AreUncited s (beside ++ written_pages pages.entry.written.now draft)
         → AreDrawn state.now.next (pages.entry.retired.now ++ pages.entry.written.now)
         → IsDraftLeft task.now.alone task.now.erase w.file.header.tiles (map entries_in w.file.pages) draft
-        → IfOk result (λ made. (t : Stored) × IsSweptBy s (plain_sweep task.now) t
+        → IfOk result (λ made. (t : Stored) × IsSweepInstalled s (plain_sweep task.now) t
         × ((left : prelude.List (name.Name × prelude.List ℕ)) × IsStep s (beside ++ written_pages pages.entry.written.now draft) t left made.headers.items made.step × (made.left.items ≡ names_in left)
         × AreDrawn made.step.manifest.next made.left.items)) }
 {

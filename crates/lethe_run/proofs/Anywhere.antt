@@ -98,7 +98,7 @@ module _ (Told Ports : Type 0) (act : Act) (call : Call) (is : call_of act ≡ S
 
 module _ (Told Ports : Type 0) (act : Act) (call : Call) (is : call_of act ≡ Some call) (writes : change_of act ≡ Some call) (old new : View) (before behind : Slots) where
   abbrev face : Face
-  face = record (face_of old) { retired = new.retired }
+  face = face_of old
 
   pub change_tells : behind ≡ before → (faults_before faults_now : ℕ) (result : Result ℕ Refused) → engine.Answers Told (Makes call) (result_err result) face old new → IfOk result (λ place. place ≡ old.state.count + 1)
       → IfErr result (HasReasonOfChange Told Ports old new faults_before faults_now) → ((at : ℕ) → old.state.stopped ≡ Some at → IsErrOf result (refused.Stopped at)) → Tells Ports act (reply_of result) old before new behind

@@ -11,7 +11,7 @@ use Rattle.lethe_snapshot.specs.Points.{IsOf}
 use Rattle.lethe_snapshot.specs.declared.snapshot.Snapshot.{Snapshot}
 use Rattle.lethe_stored.specs.Left.{without_failed}
 use Rattle.lethe_core.specs.Pins.{IsPinOf}
-use Rattle.lethe_core.specs.View.{Face, View}
+use Rattle.lethe_core.specs.View.{View}
 use Rattle.lethe_script.specs.Slots.{is_held}
 use Rattle.lethe_run.specs.Holding.{AreShown, AreThose, HoldsPins, IsShown, held_in, pin_of, slots_of}
 use Rattle.lethe_run.specs.Slots.{Slots, no_slots, pin_in, pins_of, with_pin, without_pin}
@@ -146,11 +146,6 @@ module _ {D Page Port : Type 0} {kind : Ghosts D Page Port} (held : List (Option
 
   pub behind_held : is_some (get_or held slot None) ≡ true → cond (is_held (held_in held) slot) (Some next) None ≡ Some next
   behind_held there = ap (λ b. cond b (Some next) None) (held_at held slot (get_or held slot None) refl ∙ there)
-
--- the pins of one of two faces that have the same ones
-pub chosen_pins : (b : Bool) (one other : Face) → one.pins ≡ other.pins → (cond b one other).pins ≡ other.pins
-chosen_pins true one other same = same
-chosen_pins false one other same = refl
 
 -- Where no pin is held
 

@@ -13,7 +13,7 @@ use Rattle.lethe_base.proofs.Histories.{change_at-append, change_at-push}
 use Rattle.lethe_disk.specs.declared.disk.Disk.{Ghosts}
 use Rattle.lethe_snapshot.specs.declared.snapshot.Snapshot.{Snapshot}
 use Rattle.lethe_core.specs.Asked.{Failure, done_by, stopped_by}
-use Rattle.lethe_core.specs.View.{Face, View}
+use Rattle.lethe_core.specs.View.{View}
 use Rattle.lethe_row.specs.Along.{IsEnded, row_behind, tried}
 use Rattle.lethe_row.specs.Rows as rows
 use Rattle.lethe_row.specs.declared.asking.Asked.{Asked}
@@ -274,7 +274,7 @@ done_more caller count n place is =
 
 -- A row that was made
 
-module _ (Tells Ports : Type 0) (caller : ℕ) (changes left : List Asked) (done : ℕ) (refused : Option Refused) (old new : View) (is : AnswersRow Tells changes left done refused old new) where
+module _ (Tells Ports : Type 0) (caller : ℕ) (changes left : List Asked) (done : ℕ) (refused : Option Refused) (old new : View) (is : AnswersRow Tells changes left done refused old new) (pins : new.pins ≡ old.pins) where
   -- the store goes on to the history behind it
   advances : Tells → (begin : Start) (from : Point) (h : History) → IsOn begin from h old → Advances begin h (row_behind h caller is.row.made is.row.failed) old new
   advances told begin from h on = record {
@@ -300,6 +300,8 @@ module _ (Tells Ports : Type 0) (caller : ℕ) (changes left : List Asked) (done
       served = served;
       faults = is.row.faults;
       face = is.face_is;
+      retired = is.retired;
+      pins = pins;
     }
       where
         tried_is : tried is.row.made is.row.failed ≡ is.row.made
@@ -417,6 +419,8 @@ module _ (Tells Ports : Type 0) (caller : ℕ) (changes left : List Asked) (done
       served = served_failed;
       faults = is.row.faults;
       face = is.face_is;
+      retired = is.retired;
+      pins = pins;
     }
 
 -- a row in which no change failed
@@ -452,11 +456,11 @@ pub runs_so : (told stopped : Option ℕ) (b : Bool) → told ≡ stopped → b 
 runs_so told stopped b is tells false_is = sym is ∙ none_if told (sym tells ∙ false_is)
 
 -- by why it went no further
-module _ (Tells Ports : Type 0) (caller : ℕ) (changes left : List Asked) (done : ℕ) (refused : Option Refused) (old new : View) (is : AnswersRow Tells changes left done refused old new) (runs : old.state.stopped ≡ None) (before behind : List Line) where
+module _ (Tells Ports : Type 0) (caller : ℕ) (changes left : List Asked) (done : ℕ) (refused : Option Refused) (old new : View) (is : AnswersRow Tells changes left done refused old new) (pins : new.pins ≡ old.pins) (runs : old.state.stopped ≡ None) (before behind : List Line) where
   pub row_unfailed : ((place faults now : ℕ) → refused ≡ Some (refusal.Fault place faults now) → ⊥) → behind ≡ before ++ done_lines caller old.state.count done → HasMade Tells Ports caller changes is.row.rest before behind old new
   row_unfailed never pushed =
       let ended = unfailed refused is.row.rest left is.row.failed old new is.row.ended never in
-      row_made Tells Ports caller changes left done refused old new is runs ended.0 (is.row.stopped ∙ ended.2 old.state.stopped ∙ runs) before behind pushed
+      row_made Tells Ports caller changes left done refused old new is pins runs ended.0 (is.row.stopped ∙ ended.2 old.state.stopped ∙ runs) before behind pushed
 
   pub row_whole : refused ≡ None → is.row.rest ≡ left
   row_whole whole = let ended = subst (λ r. IsEnded r is.row.rest left is.row.failed old new) whole is.row.ended in sym ended.1
@@ -473,7 +477,7 @@ module _ (Tells Ports : Type 0) (caller : ℕ) (changes left : List Asked) (done
       let fault_line = line.Answer caller (reply.Fault place faults now) in
       let dones = done_lines caller old.state.count done in
       let stopped : new.state.stopped ≡ Some place = is.row.stopped ∙ ap (λ r. stopped_by r old.state.stopped) why in
-      row_failed Tells Ports caller changes left done refused old new is runs next others (record { place = place; before = faults; after = now }) ended.2 ended.3 ended.4 ended.5 ended.6 ended.7 stopped before behind
+      row_failed Tells Ports caller changes left done refused old new is pins runs next others (record { place = place; before = faults; after = now }) ended.2 ended.3 ended.4 ended.5 ended.6 ended.7 stopped before behind
       (pushed ∙ append_assoc (before ++ dones) (fault_line ∷ []) (stopped_lines caller place many) ∙ append_assoc before dones (fault_line ∷ stopped_lines caller place many)
       ∙ ap (λ n. before ++ (done_lines caller old.state.count n ++ fault_line ∷ stopped_lines caller place many)) (sym is.row.many)
       ∙ ap (λ n. before ++ (done_lines caller old.state.count (length is.row.made) ++ fault_line ∷ stopped_lines caller place n)) fewer)
@@ -489,6 +493,8 @@ row_still Tells Ports caller changes lines view = record {
   served = λ told begin from start on. (start, phase_of Ports begin from start start [] [] view view on (built_start Ports begin start view));
   faults = omega arith;
   face = refl;
+  retired = refl;
+  pins = refl;
 }
 
 pub no_more : {X : Type 0} (xs : List X) → length xs ≡ 0 → xs ≡ []
@@ -516,7 +522,7 @@ module _ {D Page Port : Type 0} {kind : Ghosts D Page Port} (Tells Ports : Type 
     are = made.are;
     lines = made.lines;
     stretch = record {
-      told = subst (λ slots. AreTold Ports old.faults new.faults (orders_of caller made.front) (standing_of old (slots_of old held)) made.more (standing_of new slots)) (sym (same_slots held old new (ap (λ (face : Face). face.pins) made.face)))
+      told = subst (λ slots. AreTold Ports old.faults new.faults (orders_of caller made.front) (standing_of old (slots_of old held)) made.more (standing_of new slots)) (sym (same_slots held old new made.pins))
           (made.told (slots_of old held));
       served = λ told begin from start on shown.
           let is = made.served told begin from start on in

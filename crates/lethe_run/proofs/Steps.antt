@@ -154,7 +154,7 @@ module _ (Tells Ports : Type 0) (told : Tells) (begin : Start) (from : Point) (h
     (on : IsOn begin from h old) (small : frozen_len old.state.frozen ≤ 16384)
     (merges : StandsNow begin.config h new → new.state.stopped ≡ None → IsShortToMerge Tells new → max_place ≤ new.state.next + most_numbers (length h)) where
   abbrev face : Face
-  face = record (face_of old) { retired = new.retired }
+  face = face_of old
 
   made : (place : ℕ) → place ≡ old.state.count + 1 → Says Tells Ports told begin from h caller act call is face old new on None → Replied Tells Ports told begin from h caller act call is face old new on (reply.Done place)
   made place place_is says =

@@ -18,14 +18,14 @@ use Rattle.lethe_core.specs.Asked.{done_by}
 use Rattle.lethe_core.specs.Merges.{IsShortToMergeBy, due_choice}
 use Rattle.lethe_core.specs.Reasons.{HasReason, IsUnreadable}
 use Rattle.lethe_core.specs.StandsNow.{IsOpenOrStopped, StandsNow}
-use Rattle.lethe_core.specs.View.{Face, View, face_of}
+use Rattle.lethe_core.specs.View.{Face, View}
 use Rattle.lethe_core.proofs.Histories.{all_done}
 use Rattle.lethe_core.proofs.Standing.{stands_for}
 use Rattle.lethe_cover.specs.Steps.{with_done}
 use Rattle.lethe_disk.specs.Directory.{Directory}
 use Rattle.lethe_disk.specs.Disk.{IsSynced}
 use Rattle.lethe_engine.specs.Certificates.{HasCommitted, IsTrueCertificate}
-use Rattle.lethe_engine.specs.Ticks.{HasReasonOfTick, IsBarred, IsBehind, IsTickable, passes, ticked_face}
+use Rattle.lethe_engine.specs.Ticks.{HasReasonOfTick, IsBarred, IsBehind, IsTickable, ticked_face}
 use Rattle.lethe_engine.specs.declared.ticking.Ticked.{Ticked}
 use Rattle.lethe_engine.proofs.Clean.{now_clean}
 use Rattle.lethe_manifest.specs.declared.manifest.Manifest.{Manifest}
@@ -46,7 +46,6 @@ use Rattle.lethe_run.specs.Slots.{Slots, pins_of}
 use Rattle.lethe_run.specs.Transcript.{Course, IsShort, Start, course}
 use Rattle.lethe_run.proofs.Anywhere.{Tells, ok_runs, stands_so}
 use Rattle.lethe_run.proofs.Anywhere as anywhere
-use Rattle.lethe_run.proofs.Holding.{chosen_pins}
 use Rattle.lethe_run.proofs.Lasting.{here, seen_now}
 use Rattle.lethe_run.proofs.Outcomes.{Outcome}
 use Rattle.lethe_run.proofs.Pins.{barred_by}
@@ -113,11 +112,7 @@ module _ (to : ℕ) (old new : View) where
   call = calls.Tick to
 
   abbrev face : Face
-  face = ticked_face old to new.retired
-
-  -- the pins are as they were
-  pub pins_kept : face_of new ≡ face → new.pins ≡ old.pins
-  pins_kept is = ap (λ (f : Face). f.pins) is ∙ chosen_pins (passes old to) (record { begun = old.begun; rounds = old.rounds + 1; flight = None; retired = new.retired; pins = old.pins }) (face_of old) refl
+  face = ticked_face old to
 
   -- On any disk
 

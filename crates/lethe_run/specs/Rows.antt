@@ -67,3 +67,5 @@ pub record HasMade (Tells PortsFail : Type 0) (caller : ℕ) (changes left : Lis
   pub served : Tells → (begin : Start) (from : Point) (start : History) → IsOn begin from start old → (h : History) × IsPhase PortsFail begin start h (orders_of caller front) more old new
   pub faults : old.faults ≤ new.faults
   pub face : face_of new ≡ face_of old
+  pub retired : new.retired ≡ old.retired
+  pub pins : new.pins ≡ old.pins

@@ -16,3 +16,4 @@ mod words;
 
 pub use laws::one_scan;
 pub use top::{Ended, run};
+pub use words::are_words;

@@ -1,5 +1,5 @@
 //! What the words of a command ask for.
-ghost use Rattle.std.specs.Prelude.{◌≡◌, map, option_map};
+ghost use Rattle.std.specs.Prelude.{◌≡◌, ◌↔◌, IsSome, IsTrue, map, option_map};
 ghost use Rattle.std.specs.List.{list_any};
 ghost use Rattle.std.specs.Str.{bytes_eq};
 ghost use Rattle.std.specs.String.{string_bytes};
@@ -20,6 +20,13 @@ pub(crate) fn config_of(words: &[String]) -> Option<Config>
         }
         _ => None,
     }
+}
+
+/// Whether the words are a command: `run`, and options with their values, each given once and within its limits.
+pub fn are_words(words: &[String]) -> bool
+    ensures { IsTrue result ↔ IsSome (config_of (map string_bytes words.now)) }
+{
+    config_of(words).is_some()
 }
 
 /// The configuration of these fields, if each keeps its limits.

@@ -28,6 +28,9 @@ least_then given first least A B C front rest from left right = record {
   ];
 }
 
+pub least_either : (given first least : ℕ) (A B : ℕ → Type 0) → IsLeast given A first → IsLeast first B least → IsLeast given (λ t. A t ⊎ B t) least
+least_either given first least A B front rest = least_then given first least A B (λ t. A t ⊎ B t) front rest (λ time has. has) (λ time a. inl a) (λ time b. inr b)
+
 module _ {X : Type 0} (Has : X → ℕ → Type 0) (given : ℕ) where
   -- of no items
   pub least_none : IsLeast given (HasAny Has []) given

@@ -7,6 +7,7 @@ use Rattle.lethe_base.specs.Held.{IsFiled, IsRecorded}
 use Rattle.lethe_base.specs.Layout as layout
 use Rattle.lethe_base.specs.Layout.{Layout, entries_of}
 use Rattle.lethe_base.specs.Shapes.{earlier, oldest_of}
+use Rattle.lethe_base.specs.Spent.{left_erases}
 use Rattle.lethe_base.specs.declared.config.Fields.{Fields}
 use Rattle.lethe_base.specs.declared.entry.Entry.{Entry}
 use Rattle.lethe_base.specs.declared.pending.Pending.{Pending}
@@ -28,15 +29,18 @@ use Rattle.lethe_segment.specs.declared.record.Record.{Record}
 use Rattle.lethe_segment.specs.declared.record.Record.TheVariants as of
 use Rattle.lethe_stored.specs.Files.{StoredFile, IsFile, Parts, parts_of, file_of}
 use Rattle.lethe_stored.specs.Levels.{HasFiles}
-use Rattle.lethe_stored.specs.Stored.{Stored, IsCoherent, layout_of, pending_of, plain, records_in}
+use Rattle.lethe_stored.specs.Stored.{Stored, IsCoherent, layout_of, plain, records_in}
 use Rattle.lethe_stored.proofs.FileFacts.{as_many, entries_are}
 use Rattle.lethe_stored.proofs.Leveled.{low_level}
 use Rattle.lethe_stored.proofs.Meanings.{frozen_are}
-use Rattle.lethe_state.proofs.Leveled.{parts_from, parts_to}
+use Rattle.lethe_state.proofs.Leveled.{any_mapped, any_unmapped, parts_from, parts_to}
+use Rattle.lethe_state.specs.Left.{left_with}
+use Rattle.lethe_state.specs.declared.state.State.{State}
 use Rattle.lethe_advance.specs.Shown.{parts_by_level, parts_in}
 use Rattle.lethe_version.specs.Versions.{levels_of}
 use Rattle.lethe_version.specs.declared.version.Version.{Version}
-use Rattle.lethe_snapshot.specs.Times.{IsLeast, IsOldestIn}
+use Rattle.lethe_snapshot.specs.Times.{IsLeast, IsOldestIn, IsRemembered}
+use Rattle.lethe_snapshot.proofs.Least.{least_either, least_same}
 
 -- The least time of some items is at most that of each, and is one's
 
@@ -202,7 +206,7 @@ module _ {D Page Port : Type 0} {kind : Ghosts D Page Port} (s : Stored) (cohere
   -- All
 
   module _ (first second third least : ℕ) (active : IsLeast s.manifest.clock (λ t. oldest_in s.active.records ≡ Some t) first) (frozen : IsLeast first (λ t. oldest_in (records_in s.frozen) ≡ Some t) second)
-      (erases : IsLeast second (λ t. Any (λ (erase : Pending). erase.time ≡ t) (pending_of s)) third) (filed : IsLeast third HasOldest least) where
+      (erases : IsLeast second (λ t. Any (λ (erase : Pending). erase.time ≡ t) (left_erases l)) third) (filed : IsLeast third HasOldest least) where
     by_record : (r : layout.Record) (t : ℕ) → IsRecorded l r → HasTime r t → least ≤ t
     by_record r t recorded has = elim recorded [
       | inl here ↦
@@ -229,9 +233,9 @@ module _ {D Page Port : Type 0} {kind : Ghosts D Page Port} (s : Stored) (cohere
         let upto = by.2 in
         omega (arith, low, upto)
 
-    by_erase : (erase : Pending) (t : ℕ) → Contains (pending_of s) erase → erase.time ≡ t → least ≤ t
+    by_erase : (erase : Pending) (t : ℕ) → Contains (left_erases l) erase → erase.time ≡ t → least ≤ t
     by_erase erase t there same =
-        let low = erases.each t (any_at (λ (erase : Pending). erase.time ≡ t) (pending_of s) erase there same) in
+        let low = erases.each t (any_at (λ (erase : Pending). erase.time ≡ t) (left_erases l) erase there same) in
         let c = filed.upto in
         omega (arith, low, c)
 
@@ -252,7 +256,7 @@ module _ {D Page Port : Type 0} {kind : Ghosts D Page Port} (s : Stored) (cohere
             | inr has ↦ inr (subst (IsObligation l) (sym (d ∙ c)) (frozen_is second has))
           ]
           | inr has ↦
-              let found = some_at (λ (erase : Pending). erase.time ≡ third) (pending_of s) has in
+              let found = some_at (λ (erase : Pending). erase.time ≡ third) (left_erases l) has in
               inr (subst (IsObligation l) (sym d) (inr (found.0, inl found.1, found.2)))
         ]
         | inr has ↦ let found = filed_from least has in inr (inl (found.0, found.1.file.swept, inr (found.1, refl), found.2))
@@ -279,3 +283,33 @@ limit_from s coherent fields least limit same is capped = record {
         let low = is.upto in
         let config : fields.threshold ≡ s.manifest.config.threshold = ap (λ (f : Fields). f.threshold) same in
         omega (arith, clock, threshold, low, config, capped)
+
+-- On any disk
+
+abbrev IsIn : ℕ → List (List Parts) → Type 0
+IsIn t levels = Any (λ files. Any (λ (parts : Parts). IsOldestIn parts.header.tiles t) files) levels
+
+module _ {D Page Port : Type 0} {kind : Ghosts D Page Port} (version : Version D Page Port kind) (t : ℕ) where
+  -- the times of the lines are those of the files' parts
+  parts_have : Any (λ files. Any (λ file. IsOldestIn file.header.tiles t) files) (levels_of version) → IsIn t (parts_by_level version)
+  parts_have any =
+      let files = some_at (λ files. Any (λ (file : FileView D Page Port kind). IsOldestIn file.header.tiles t) files) (levels_of version) any in
+      any_at (λ files. Any (λ (parts : Parts). IsOldestIn parts.header.tiles t) files) (parts_by_level version) (map parts_in files.0) (in_map (map parts_in) (levels_of version) files.0 files.1)
+      (any_mapped (λ (parts : Parts). IsOldestIn parts.header.tiles t) parts_in files.0 files.2)
+
+  had_by_parts : IsIn t (parts_by_level version) → Any (λ files. Any (λ file. IsOldestIn file.header.tiles t) files) (levels_of version)
+  had_by_parts any =
+      let parts = some_at (λ files. Any (λ (parts : Parts). IsOldestIn parts.header.tiles t) files) (parts_by_level version) any in
+      let files = map_from (map parts_in) (levels_of version) parts.0 parts.1 in
+      any_at (λ files. Any (λ (file : FileView D Page Port kind). IsOldestIn file.header.tiles t) files) (levels_of version) files.0 files.1
+      (any_unmapped (λ (parts : Parts). IsOldestIn parts.header.tiles t) parts_in files.0 (subst (Any (λ (parts : Parts). IsOldestIn parts.header.tiles t)) (sym files.2) parts.2))
+
+-- the least of what is remembered
+pub least_remembered : {D Page Port : Type 0} {kind : Ghosts D Page Port} (state : State) (version : Version D Page Port kind) (first second third least : ℕ)
+    → IsLeast state.manifest.clock (λ t. state.oldest ≡ Some t) first → IsLeast first (λ t. state.frozen_oldest ≡ Some t) second
+    → IsLeast second (λ t. Any (λ (erase : Pending). erase.time ≡ t) (left_with state)) third
+    → IsLeast third (λ t. Any (λ files. Any (λ file. IsOldestIn file.header.tiles t) files) (levels_of version)) least
+    → IsLeast state.manifest.clock (IsRemembered state (parts_by_level version)) least
+least_remembered state version first second third least active frozen erases filed =
+    let parts = least_same third least _ (λ t. IsIn t (parts_by_level version)) (parts_have version) (had_by_parts version) filed in
+    least_either state.manifest.clock first least _ _ active (least_either first second least _ _ frozen (least_either second third least _ _ erases parts))

@@ -3,9 +3,10 @@ ghost use Rattle.std.specs.Prelude.{◌≡◌, Any, Some};
 ghost use Rattle.lethe_advance.specs.Shown.{parts_by_level};
 ghost use Rattle.lethe_bound.specs.Limits.{IsLimit};
 ghost use Rattle.lethe_state.specs.Remembered.{Remembers};
+ghost use Rattle.lethe_state.specs.Writable.{IsWritable};
 ghost use Rattle.lethe_stored.specs.Stored.{Stored, layout_of};
 ghost use Rattle.lethe_version.specs.Versions.{levels_of};
-ghost use Rattle.lethe_snapshot.specs.Times.{IsLeast, IsOldestIn};
+ghost use Rattle.lethe_snapshot.specs.Times.{IsLeast, IsLimitBy, IsOldestIn};
 
 use lethe_base::Pending;
 use lethe_disk::Disk;
@@ -14,14 +15,19 @@ use lethe_state::State;
 use lethe_version::{Shared, Version};
 
 /// The time from which on a tick is refused while a pin is held that is made now: a threshold later than the clock, or than the oldest
-/// obligation where that is earlier. It looks at what is in memory, the headers' lines among it, takes no memory and makes no device call.
+/// obligation where that is earlier. Erases that are done are none, unless a segment records them. It looks at what is in memory, the
+/// headers' lines among it, takes no memory and makes no device call.
 pub fn limit_of<D: Disk>(state: &State, version: &Version<D>) -> u64
+    requires { IsWritable state.now }
     ensures limit { (s : Stored) → Remembers s state.now (parts_by_level version.now) → IsLimit s.manifest.config.threshold (layout_of s) result }
+
+    // On any disk.
+    ensures by { IsLimitBy state.now (parts_by_level version.now) result }
 {
     let manifest = state.manifest();
     let time = earlier(manifest.clock, state.oldest());
     let time = earlier(time, state.frozen_oldest());
-    let time = least_of_erases(time, state.pending());
+    let time = least_of_erases(time, state.left_erases());
     let time = least_of_version(time, version);
     manifest.config.fields().threshold.saturating_add(time)
 }

@@ -17,7 +17,7 @@ use Rattle.lethe_segment.specs.declared.record.Record.{Record}
 use Rattle.lethe_stored.specs.Files.{Parts}
 use Rattle.lethe_stored.specs.Stored.{IsCoherent, Segment, Stored, erase_of, layout_of, plain, records_in}
 use Rattle.lethe_state.specs.Firsts.{firsts_in, firsts_with}
-use Rattle.lethe_state.specs.Left.{HasOtherFiles, done_with, first_recorded, installed, kept_with}
+use Rattle.lethe_state.specs.Left.{HasOtherFiles, done_with, first_recorded, installed, kept_with, left_with}
 use Rattle.lethe_state.specs.Remembered.{Remembers}
 use Rattle.lethe_state.specs.Writable.{IsWritable, segments_for}
 use Rattle.lethe_state.specs.declared.firsts.Firsts.{Firsts}
@@ -90,7 +90,7 @@ module _ (s t : Stored) (state : State) (levels : List (List Parts)) (is : Remem
   kept_remembered = λ i. kept_of ((is.pending ∙ sym others.pending) i) (done_remembered i) (first_recorded_is i)
 
 pub left_remembered : (s : Stored) (state : State) (levels : List (List Parts)) → Remembers s state levels
-    → filter (λ erase. is_above (done_with state state.manifest.files) erase.seq) state.pending ≡ left_erases (layout_of s)
+    → left_with state ≡ left_erases (layout_of s)
 left_remembered s state levels is =
     let files = ap (λ m. done_with state m.files) is.manifest in
     let done = files ∙ done_remembered s s state levels is (same_files s is.coherent) in

@@ -8,3 +8,4 @@ pub mod FlushStep
 pub mod TickStep
 pub mod Left
 pub mod Pending
+pub mod Calls

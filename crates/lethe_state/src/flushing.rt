@@ -1,6 +1,6 @@
 //! Flushing the frozen segment.
 ghost use Rattle.std.specs.Prelude as prelude;
-ghost use Rattle.std.specs.Prelude.{◌≡◌, ◌⊎◌, ◌↔◌, ℕ, Bool, ◌+◌, ◌<◌, ◌≤◌, ◌^◌, All, IfErr, IfOk, IsErrOf, IsSome, IsTrue, length, sum_by};
+ghost use Rattle.std.specs.Prelude.{◌≡◌, ◌⊎◌, ◌↔◌, ℕ, Bool, ◌+◌, ◌*◌, ◌<◌, ◌≤◌, ◌^◌, All, IfErr, IfOk, IsErrOf, IsSome, IsTrue, length, sum_by};
 ghost use Rattle.lethe_base.specs.Limits.{max_place};
 ghost use Rattle.lethe_base.specs.Spelling as entries;
 ghost use Rattle.lethe_base.specs.declared.refused.Refused.TheVariants as refused;
@@ -12,6 +12,7 @@ ghost use Rattle.lethe_header.specs.Headers as headers;
 ghost use Rattle.lethe_manifest.specs.Manifests.{HasSpelling};
 ghost use Rattle.lethe_stored.specs.Files.{StoredFile};
 ghost use Rattle.lethe_stored.specs.Stored.{Stored};
+ghost use Rattle.lethe_advance.specs.Calls.{most_calls};
 ghost use Rattle.lethe_advance.specs.Shown.{parts_by_level};
 ghost use Rattle.lethe_base.specs.declared.name.Name as name;
 ghost use Rattle.lethe_advance.specs.Settled.{AreDrawn, AreUncited, names_in};
@@ -55,6 +56,9 @@ impl State {
         // The numbers of all objects and of the manifest were drawn.
         ensures step { IfOk result (λ made. IsStepFrom 1 self.now made.0.items made.1) }
         ensures drafted { IfOk result (λ made. (drafts : prelude.List draft.Draft) × AreDrafted self.now drafts × (length made.1.objects.items ≡ sum_by numbers_for drafts)) }
+
+        // Of the objects that it makes each is created, and each page is opened, too. One segment goes.
+        ensures calls { IfOk result (λ made. most_calls made.0.items made.1 ≤ 2 * length made.1.objects.items + 9) }
         ensures flushes { (s : Stored) → Remembers s self.now (parts_by_level version.now) → IsCurrent s self.now
             → (loose : prelude.List (name.Name × prelude.List ℕ)) → AreDrawn self.now.next (names_in loose) → AreUncited s loose
             → IfOk result (λ made. (t : Stored) × IsFlushed s t × IsStep s loose t loose made.0.items made.1) }

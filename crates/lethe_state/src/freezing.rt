@@ -7,6 +7,7 @@ ghost use Rattle.lethe_manifest.specs.Manifests.{HasSpelling};
 ghost use Rattle.lethe_stored.specs.Files.{Parts};
 ghost use Rattle.lethe_stored.specs.Stored.{Stored, froze};
 ghost use Rattle.lethe_base.specs.declared.name.Name as name;
+ghost use Rattle.lethe_advance.specs.Calls.{most_calls};
 ghost use Rattle.lethe_advance.specs.Settled.{AreDrawn, AreUncited, names_in};
 ghost use Rattle.lethe_advance.specs.Steps.{IsStep};
 ghost use Rattle.lethe_advance.specs.Segment.{empty_segment};
@@ -35,6 +36,7 @@ impl State {
         ensures exhausted { IsErrOf result (refused.Exhausted max_place) ↔ IsShortToFreeze self.now }
         ensures refused { IfErr result (λ why. (why ≡ refused.Exhausted max_place) ⊎ (why ≡ refused.NoMemory)) }
         ensures step { IfOk result (IsStepFrom 2 self.now []) }
+        ensures calls { IfOk result (λ step. (most_calls [] step ≡ 9) × (length step.objects.items ≡ 1)) }
         ensures freezes { (s : Stored) (levels : prelude.List (prelude.List Parts)) → Remembers s self.now levels → IsCurrent s self.now
             → (loose : prelude.List (name.Name × prelude.List ℕ)) → AreDrawn self.now.next (names_in loose) → AreUncited s loose
             → IfOk result (λ step. IsStep s loose (froze s self.now.next (self.now.next + 1)) loose [] step) }

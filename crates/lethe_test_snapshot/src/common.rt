@@ -4,7 +4,7 @@ ghost use Rattle.lethe_base.specs.Limits.{max_place, max_time};
 ghost use Rattle.lethe_segment.specs.Records.{RecordHasSpelling};
 ghost use Rattle.lethe_state.specs.Writable.{IsWritable};
 
-use lethe_base::{Key, Value};
+use lethe_base::{Key, Range, Value};
 use lethe_disk::Disk;
 use lethe_manifest::read_manifest;
 use lethe_segment::Record;
@@ -104,6 +104,23 @@ pub fn put_since(
             Record::Entry(entry)
         }
         (next, _) => next,
+    };
+    enter(alloc, state, next)
+}
+
+/// An erase of the delete key 5, accepted at that time.
+pub fn erase_at(alloc: Global, state: &mut State, time: u8) -> Result<(), Fail>
+    requires { IsWritable state.old }
+    ensures { OnOk result (IsWritable state.new) }
+{
+    let range = Range::new(5, 6).ok_or("a range")?;
+    state.may_change()?;
+    let next = match state.erase_record(range) {
+        Record::Erase(mut erase) => {
+            erase.time = u64::from(time);
+            Record::Erase(erase)
+        }
+        next => next,
     };
     enter(alloc, state, next)
 }

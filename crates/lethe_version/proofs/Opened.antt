@@ -1,7 +1,7 @@
 -- Pages that are opened one after the other.
-use Rattle.std.proofs.Common.{◌≡◌, ℕ, zero, suc, ◌+◌, ◌<◌, List, [], ◌∷◌, ◌++◌, length, map, get_or, take, drop, arith, sym, ap, refl, subst, ◌∙◌, append_assoc}
+use Rattle.std.proofs.Common.{◌≡◌, ℕ, zero, suc, ◌+◌, ◌<◌, ◌≤◌, List, [], ◌∷◌, ◌++◌, length, map, get_or, take, drop, arith, sym, ap, refl, subst, ◌∙◌, append_assoc, length-append}
 use Rattle.std.specs.Prelude.{All}
-use Rattle.std.proofs.lemmas.List.{append-nil, map-append, take_more, take_at, drop_at}
+use Rattle.std.proofs.lemmas.List.{append-nil, map-append, take_more, take_at, drop_at, take-append-drop}
 use Rattle.std.proofs.lemmas.List.Concat.{flat_map-append}
 use Rattle.std.proofs.lemmas.List.Elements.{All-same, All-take, All-drop}
 use Rattle.lethe_header.specs.Facts.{lines_of}
@@ -36,3 +36,16 @@ all_of_tile P all tiles i tile lines same lt is own holds =
     at_place (t ∷ ts) zero d lt holds = All-same P t.pages (take (length t.pages) (t.pages ++ lines_of ts)) (sym (take_at t.pages (lines_of ts) (length t.pages) refl)) (All-take P (length t.pages) (t.pages ++ lines_of ts) holds)
     at_place (t ∷ ts) (suc i) d lt holds =
         at_place ts i d (omega arith) (All-same P (lines_of ts) (drop (length t.pages) (t.pages ++ lines_of ts)) (sym (drop_at t.pages (lines_of ts) (length t.pages) refl)) (All-drop P (length t.pages) (t.pages ++ lines_of ts) holds))
+
+-- the calls that open them, one for each page
+
+pub calls_more : (tiles : List TileLine) (i : ℕ) (tile : TileLine) (lines : List PageLine) → i < length tiles → tile ≡ get_or tiles i tile → lines ≡ tile.pages → (old now new : ℕ)
+    → now ≤ old + length (lines_of (take i tiles)) → new ≤ now + length lines → new ≤ old + length (lines_of (take (i + 1) tiles))
+calls_more tiles i tile lines lt is own old now new so_far next =
+    omega (arith, so_far, next, ap length own, ap length (lines_more tiles i tile lt is), length-append (lines_of (take i tiles)) tile.pages)
+
+pub calls_within : (tiles all : List TileLine) (i old new : ℕ) → tiles ≡ all → new ≤ old + length (lines_of (take i tiles)) → new ≤ old + length (lines_of all)
+calls_within tiles all i old new same so_far =
+    let parts : lines_of all ≡ lines_of (take i tiles) ++ lines_of (drop i tiles) =
+    ap lines_of (sym same ∙ sym (take-append-drop i tiles)) ∙ flat_map-append (λ (t : TileLine). t.pages) (take i tiles) (drop i tiles) in
+    omega (arith, so_far, ap length parts, length-append (lines_of (take i tiles)) (lines_of (drop i tiles)))

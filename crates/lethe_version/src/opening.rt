@@ -20,6 +20,7 @@ fn open_page<D: Disk>(alloc: Global, disk: &mut D, no: u64) -> Result<Arc<D::Pag
     requires { D.tells → IsSome (object (D.seen disk.old).directory (page_name no)) }
     ensures page { D.tells → IfOk result (λ page. object (D.seen disk.old).directory (page_name no) ≡ Some (D.page_bytes page.value)) }
     ensures quiet { D.tells → IsQuiet (D.seen disk.old) (D.seen disk.new) }
+    ensures soon { D.tells → (D.seen disk.new).moment ≤ (D.seen disk.old).moment + 1 }
     ensures cause { HasCause (D.faults disk.old) (D.faults disk.new) result }
 {
     let name = Name {
@@ -42,6 +43,7 @@ fn open_pages<D: Disk>(
         ≡ map (λ page. Some (D.page_bytes page.value)) pages.old.items ++ map (λ line. object (D.seen disk.old).directory (page_name line.no)) lines.now) }
     ensures count { OnOk result (length pages.new.items ≡ length pages.old.items + length lines.now) }
     ensures quiet { D.tells → IsQuiet (D.seen disk.old) (D.seen disk.new) }
+    ensures soon { D.tells → (D.seen disk.new).moment ≤ (D.seen disk.old).moment + length lines.now }
     ensures cause { HasCause (D.faults disk.old) (D.faults disk.new) result }
 {
     for line in lines {
@@ -65,6 +67,9 @@ pub fn open_file<D: Disk>(
     ensures header { IfOk result (λ file. file.header ≡ header) }
     ensures pages { D.tells → IfOk result (λ file. map Some (bytes_of file) ≡ map (λ line. object (D.seen disk.old).directory (page_name line.no)) (lines_of header.tiles)) }
     ensures quiet { D.tells → IsQuiet (D.seen disk.old) (D.seen disk.new) }
+
+    // It takes at most one device call for each page.
+    ensures soon { D.tells → (D.seen disk.new).moment ≤ (D.seen disk.old).moment + length (lines_of header.tiles) }
     ensures cause { HasCause (D.faults disk.old) (D.faults disk.new) result }
 {
     let mut pages = Vec::new(alloc);

@@ -1,11 +1,13 @@
-use Rattle.std.proofs.Common.{◌≡◌, ◌≤◌, ◌+◌, ◌*◌, [], None, length}
+use Rattle.std.proofs.Common.{◌≡◌, ◌≤◌, ◌+◌, ◌*◌, ◌++◌, List, [], None, length}
 use Rattle.std.specs.Prelude.{vec_len, vec_capacity}
 use Rattle.lethe_base.specs.History.{History}
 use Rattle.lethe_base.specs.declared.config.Fields.{Fields}
+use Rattle.lethe_cert.specs.declared.certificate.Certificate.{Certificate}
 use Rattle.lethe_stored.specs.Stored.{Stored}
 use Rattle.lethe_core.specs.Running.{IsSound}
 use Rattle.lethe_core.specs.View.{view_of}
-use Rattle.lethe_engine.specs.StandsFor.{Opened, StandsSince}
+use Rattle.lethe_engine.specs.StandsFor.{Opened, StandsFor}
+use Rattle.lethe_drive.specs.Certificates.{certificates_in}
 use Rattle.lethe_drive.specs.Driving.{IsTheirs}
 use Rattle.lethe_drive.specs.Moments.{IsKnown, moment_of}
 use Rattle.lethe_drive.specs.Past.{AreEarlier}
@@ -26,10 +28,11 @@ invariant-loop-event g l =
       jobs : IsTheirs g.D.Disk.tells now l.jobs;
       earlier : AreEarlier l.engine.core.begun.rounds l.past.items;
       begun : l.jobs.begun ≤ length l.yielded;
-      driven : g.D.Disk.tells → (config : Fields) (opened : Opened) (h : History) → StandsSince config opened h old → (s : Stored) → IsKnown config h old s
-          → (k : History) × (t : Stored) × IsKnown config k now t × StandsSince config opened k now
+      driven : g.D.Disk.tells → (config : Fields) (opened : Opened) (h : History) (answered : List Certificate) → StandsFor config opened h old answered → (s : Stored) → IsKnown config h old s
+          → (k : History) × (t : Stored) × IsKnown config k now t × StandsFor config opened k now (answered ++ certificates_in l.replies.items)
           × Steps g.D.Disk.ports_fail config h (run_at (moment_of old s (g.D.Disk.fetches l.fn.port) (g.D.Disk.port_faults l.fn.port) 0 None []) []) l.yielded l.replies.items k
           (run_of now t (g.D.Disk.fetches l.port) (g.D.Disk.port_faults l.port) l.jobs l.snapshots.items l.past.items);
+      certificates : l.engine.certificates.items ≡ l.fn.engine.certificates.items ++ certificates_in l.replies.items;
       faults : old.faults ≤ now.faults;
       room : 2 * length l.fn.events.items + 1 ≤ vec_capacity l.replies;
       len : vec_len l.replies ≡ length l.yielded;

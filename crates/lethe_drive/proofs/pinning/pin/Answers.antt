@@ -2,15 +2,16 @@ use Rattle.std.proofs.Common.{◌≡◌, ◌↔◌, ◌∷◌, ◌++◌, [], Ok,
 use Rattle.lethe_base.specs.Limits.{max_place}
 use Rattle.lethe_base.specs.declared.refused.Refused.TheVariants.{Exhausted}
 use Rattle.lethe_core.specs.View.{View, view_of}
-use Rattle.lethe_engine.specs.StandsFor.{StandsSince}
+use Rattle.lethe_engine.specs.StandsFor.{StandsFor}
 use Rattle.lethe_drive.specs.Moments.{IsKnown, numbers_of}
 use Rattle.lethe_drive.specs.declared.event.Reply.TheVariants as reply
+use Rattle.lethe_drive.proofs.Certificates.{stands_call}
 use Rattle.lethe_drive.proofs.Knowing.{ok_or_err}
 use Rattle.lethe_drive.proofs.Pins.{has_pinned, known_pinned, not_pinned, pushed_numbers}
 use Rattle.lethe_drive.proofs.pinning.pin.Goals as goal
 
 pub returns-in-Ok-clause-step : goal.returns-in-Ok-clause-step
-returns-in-Ok-clause-step g c = λ told config opened h stands s known fetches faults begun there.
+returns-in-Ok-clause-step g c = λ told config opened h answered stands s known fetches faults begun there.
     let old = view_of c.args.engine.now.core in
     let new = view_of c.pin.new.self.core in
     let snapshot = c.in-Ok.snapshot in
@@ -22,7 +23,7 @@ returns-in-Ok-clause-step g c = λ told config opened h stands s known fetches f
       h,
       s,
       known_pinned config h old new s new.pins same (is.held told s) known,
-      is.answers.stands told config opened h stands 0,
+      stands_call is.answers told config opened h answered stands,
       (
         Ok snapshot.number,
         ap reply.Pinned c.number-number.ensures,
@@ -32,7 +33,7 @@ returns-in-Ok-clause-step g c = λ told config opened h stands s known fetches f
     )
 
 pub returns-in-Err-clause-step : goal.returns-in-Err-clause-step
-returns-in-Err-clause-step g c = λ told config opened h stands s known fetches faults begun there.
+returns-in-Err-clause-step g c = λ told config opened h answered stands s known fetches faults begun there.
     let old = view_of c.args.engine.now.core in
     let new = view_of c.pin.new.self.core in
     let why = c.in-Err.why in
@@ -46,6 +47,6 @@ returns-in-Err-clause-step g c = λ told config opened h stands s known fetches 
       h,
       s,
       subst (λ (view : View). IsKnown config h view s) (sym same) known,
-      subst (StandsSince config opened h) (sym same) stands,
+      subst (λ (view : View). StandsFor config opened h view answered) (sym same) stands,
       (Err why, refl, not_pinned h old new s fetches faults begun there (numbers_of c.args.snapshots.now.items) why is.why same but full),
     )

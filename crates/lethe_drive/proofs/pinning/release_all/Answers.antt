@@ -3,13 +3,14 @@ use Rattle.std.proofs.lemmas.List.{nil_from_length}
 use Rattle.lethe_drive.specs.Moments.{numbers_of}
 use Rattle.lethe_pins.specs.Held.{without}
 use Rattle.lethe_drive.specs.Pins.{released}
+use Rattle.lethe_drive.proofs.Certificates.{stands_call}
 use Rattle.lethe_drive.proofs.Pins.{pushed_numbers}
 use Rattle.lethe_drive.proofs.pinning.release_all.Goals as goal
 
 pub loop-snapshot-init : goal.loop-snapshot-init
 loop-snapshot-init g c = record {
   sound = c.requires.sound;
-  stands = λ told config opened h stands. stands;
+  stands = λ told config opened h answered stands. stands;
   held = λ told s holds. holds;
   gone = ([], sym (append-nil (numbers_of c.args.snapshots.items)), refl);
 }
@@ -23,7 +24,7 @@ loop-snapshot-preserved g c =
     let taken = so_far.gone.0 in
     record {
       sound = is.answers.sound;
-      stands = λ told config opened h stands. is.answers.stands told config opened h (so_far.stands told config opened h stands) 0;
+      stands = λ told config opened h answered stands. stands_call is.answers told config opened h answered (so_far.stands told config opened h answered stands);
       held = λ told s holds. is.held told s (so_far.held told s holds);
       gone = (
         snapshot.number ∷ taken,

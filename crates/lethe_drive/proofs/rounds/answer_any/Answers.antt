@@ -1,12 +1,14 @@
-use Rattle.std.proofs.Common.{rules, ◌≡◌, ◌⊎◌, inl, inr, ℕ, ◌<◌, ◌+◌, List, [], ◌∷◌, ◌++◌, true, Some, None, refl, sym, ◌∙◌, subst, arith}
+use Rattle.std.proofs.Common.{rules, ◌≡◌, ◌⊎◌, inl, inr, ℕ, ◌<◌, ◌+◌, List, [], ◌∷◌, ◌++◌, true, Some, None, refl, sym, ap, ◌∙◌, subst, arith}
 use Rattle.std.proofs.lemmas.Option.{none-some, same_Some}
 use Rattle.lethe_stored.specs.Stored.{Stored}
 use Rattle.lethe_core.specs.View.{view_of}
+use Rattle.lethe_drive.specs.Certificates.{certificates_of}
 use Rattle.lethe_drive.specs.Moments.{there_of}
 use Rattle.lethe_drive.specs.Past.{AreEarlier, IsNoneOf, IsTickAsked, Run, named_by}
 use Rattle.lethe_drive.specs.Runs.{run_of}
 use Rattle.lethe_drive.specs.declared.past.Past.{Past}
 use Rattle.lethe_drive.proofs.Among.{none_named, number_at}
+use Rattle.lethe_drive.proofs.Certificates.{listed_none, none_given, none_refused, stands_none}
 use Rattle.lethe_drive.proofs.Events.{cancel_event, ended_event, kept_event, left_none, left_some, one_earlier, present_event, refused_event, still_earlier}
 use Rattle.lethe_drive.proofs.Left.{all_but, all_with}
 use Rattle.lethe_drive.proofs.Naming.{there_none}
@@ -17,7 +19,7 @@ use Rattle.lethe_drive.proofs.rounds.answer_any.Goals.{After-answer-reply, in-Ca
 -- A job of an earlier round
 
 pub returns-in-Some-place_of-clause-event : goal.returns-in-Some-place_of-clause-event
-returns-in-Some-place_of-clause-event g c = λ told config opened h stands s known.
+returns-in-Some-place_of-clause-event g c = λ told config opened h answered stands s known.
     let number = c.in-Some.number in
     let place = c.in-Some-place_of.place in
     let past = c.args.past.now.items in
@@ -34,7 +36,7 @@ returns-in-Some-place_of-clause-event g c = λ told config opened h stands s kno
             h,
             s,
             known,
-            stands,
+            stands_none config opened h view answered reply (ap certificates_of (w.result-is ∙ w.give_up.ensures.reply) ∙ none_given view.state.stopped) stands,
             cancel_event g.D.Disk.ports_fail h old reply h new number c.args.event w.in-Cancel.job w.in-Cancel.is named (record {
               front = gone.0;
               job = gone.2;
@@ -52,7 +54,7 @@ returns-in-Some-place_of-clause-event g c = λ told config opened h stands s kno
             h,
             s,
             known,
-            stands,
+            stands_none config opened h view answered reply (ap certificates_of (w.result-is ∙ refused.6) ∙ none_refused view.state.stopped view.rounds refused.2) stands,
             refused_event g.D.Disk.ports_fail h old reply h new number c.args.event w.in_default-event.not-Cancel named (record {
               front = refused.0;
               job = refused.2;
@@ -105,9 +107,9 @@ rounds : (g : _) (c : After-answer-reply g) → (c.answer-reply.new.engine.core.
 rounds g c = elim c.answer-reply.ensures.rounds [ inl kept ↦ inl kept | inr ended ↦ inr (ended.0, ended.1, there_none c.answer-reply.new.jobs ended.2) ]
 
 pub returns-else-rounds-clause-event : goal.returns-else-rounds-clause-event
-returns-else-rounds-clause-event g c = λ told config opened h stands s known.
+returns-else-rounds-clause-event g c = λ told config opened h answered stands s known.
     let at = (goal.at.returns-else-rounds-clause-event g c).After-answer-reply in
-    let step = c.answer-reply.ensures.step told config opened h stands s known in
+    let step = c.answer-reply.ensures.step told config opened h answered stands s known in
     let past = c.args.past.now.items in
     let few = c.if-rounds.false in (
       step.0,
@@ -119,9 +121,9 @@ returns-else-rounds-clause-event g c = λ told config opened h stands s known.
     )
 
 pub returns-in_default-left-clause-event : goal.returns-in_default-left-clause-event
-returns-in_default-left-clause-event g c = λ told config opened h stands s known.
+returns-in_default-left-clause-event g c = λ told config opened h answered stands s known.
     let at = (goal.at.returns-in_default-left-clause-event g c).After-answer-reply in
-    let step = c.answer-reply.ensures.step told config opened h stands s known in
+    let step = c.answer-reply.ensures.step told config opened h answered stands s known in
     let past = c.args.past.now.items in
     let many = c.if-rounds.true in (
       step.0,
@@ -134,9 +136,9 @@ returns-in_default-left-clause-event g c = λ told config opened h stands s know
     )
 
 pub returns-in-Some-left-clause-event : goal.returns-in-Some-left-clause-event
-returns-in-Some-left-clause-event g c = λ told config opened h stands s known.
+returns-in-Some-left-clause-event g c = λ told config opened h answered stands s known.
     let at = (goal.at.returns-in-Some-left-clause-event g c).After-answer-reply in
-    let step = c.answer-reply.ensures.step told config opened h stands s known in
+    let step = c.answer-reply.ensures.step told config opened h answered stands s known in
     let past = c.args.past.now.items in
     let pushed : c.push.new.self.items ≡ past ++ c.in-Some-left.job ∷ [] = search rules in
     let many = c.if-rounds.true in (
@@ -180,3 +182,24 @@ returns-in_default-left-clause-pinned g c = c.answer-reply.ensures.pinned
 
 pub returns-in-Some-left-clause-pinned : goal.returns-in-Some-left-clause-pinned
 returns-in-Some-left-clause-pinned g c = c.answer-reply.ensures.pinned
+
+pub returns-in-Some-place_of-clause-certificates : goal.returns-in-Some-place_of-clause-certificates
+returns-in-Some-place_of-clause-certificates g c =
+    let now = c.args.engine.now.certificates.items in
+    let view = view_of c.args.engine.now.core in
+    let reply = c.match-event.result in
+    elim c.match-event.branch [
+      | in-Cancel w ↦ listed_none now now reply refl (ap certificates_of (w.result-is ∙ w.give_up.ensures.reply) ∙ none_given view.state.stopped)
+      | in_default-event w ↦
+          let refused = w.refuse.ensures.refused in
+          listed_none now now reply refl (ap certificates_of (w.result-is ∙ refused.6) ∙ none_refused view.state.stopped view.rounds refused.2)
+    ]
+
+pub returns-else-rounds-clause-certificates : goal.returns-else-rounds-clause-certificates
+returns-else-rounds-clause-certificates g c = c.answer-reply.ensures.certificates
+
+pub returns-in_default-left-clause-certificates : goal.returns-in_default-left-clause-certificates
+returns-in_default-left-clause-certificates g c = c.answer-reply.ensures.certificates
+
+pub returns-in-Some-left-clause-certificates : goal.returns-in-Some-left-clause-certificates
+returns-in-Some-left-clause-certificates g c = c.answer-reply.ensures.certificates

@@ -6,11 +6,13 @@ use Rattle.lethe_advance.specs.Shown.{parts_by_level}
 use Rattle.lethe_job.specs.Works.{plain_task}
 use Rattle.lethe_core.specs.View.{Face, flying_of, view_of}
 use Rattle.lethe_core.proofs.Asked.{refused_none}
-use Rattle.lethe_engine.specs.StandsFor.{StandsSince}
+use Rattle.lethe_engine.specs.StandsFor.{StandsFor}
 use Rattle.lethe_engine.proofs.Reasons.{no_failure_of_begin}
 use Rattle.lethe_drive.specs.Moments.{there_of}
+use Rattle.lethe_drive.proofs.Certificates.{stands_call}
 use Rattle.lethe_drive.proofs.Freezing.{has_begun, has_not_begun, known_idle, some_mapped}
 use Rattle.lethe_drive.proofs.Giving.{begun_reads, theirs_on}
+use Rattle.lethe_drive.proofs.Kept.{kept_call}
 use Rattle.lethe_drive.proofs.Knowing.{known_held, not_stopped, ok_or_err, refused_as}
 use Rattle.lethe_drive.proofs.working.begin.Goals as goal
 
@@ -26,7 +28,7 @@ returns-in-Ok-clause-jobs g c =
     }
 
 pub returns-in-Ok-clause-step : goal.returns-in-Ok-clause-step
-returns-in-Ok-clause-step g c = λ told config opened h stands s known fetches faults snapshots.
+returns-in-Ok-clause-step g c = λ told config opened h answered stands s known fetches faults snapshots.
     let old = view_of c.args.engine.now.core in
     let new = view_of c.begin.new.self.core in
     let jobs = c.args.jobs.now in
@@ -34,12 +36,13 @@ returns-in-Ok-clause-step g c = λ told config opened h stands s known fetches f
     let is = c.in-Ok.ensures in
     let runs : old.state.stopped ≡ None = not_stopped old.state.stopped (λ at e. ok_or_err job (Stopped at) (is.stopped at e).0) in
     let begun = is.begun told s (known.held runs) in
-    let retired : new.retired ≡ old.retired = ap (λ (face : Face). face.retired) is.answers.face_is in
-    let pins : new.pins ≡ old.pins = ap (λ (face : Face). face.pins) is.answers.face_is in (
+    let retired : new.retired ≡ old.retired = let left = is.same.2 in λ i. (left i).items in
+    let pins : new.pins ≡ old.pins = is.pins in
+    let stood = stands_call is.answers told config opened h answered stands in (
       h,
       s,
-      known_held config opened h new (is.answers.stands told config opened h stands 0) s begun.1,
-      is.answers.stands told config opened h stands 0,
+      known_held config opened h new stood.since s begun.1,
+      stood,
       (
         Ok jobs.begun,
         refl,
@@ -53,20 +56,20 @@ returns-in-Err-clause-jobs g c =
     theirs_on g.D.Disk.tells (view_of c.args.engine.now.core) (view_of c.begin.new.self.core) c.args.jobs.now (ap (λ (face : Face). face.flight) c.in-Err.ensures.answers.face_is) (ap (λ (face : Face). face.rounds) c.in-Err.ensures.answers.face_is) c.requires.jobs
 
 pub returns-in-Err-clause-step : goal.returns-in-Err-clause-step
-returns-in-Err-clause-step g c = λ told config opened h stands s known fetches faults snapshots.
+returns-in-Err-clause-step g c = λ told config opened h answered stands s known fetches faults snapshots.
     let old = view_of c.args.engine.now.core in
     let new = view_of c.begin.new.self.core in
     let jobs = c.args.jobs.now in
     let why = c.in-Err.why in
     let is = c.in-Err.ensures in
     let flight : new.flight ≡ old.flight = ap (λ (face : Face). face.flight) is.answers.face_is in
-    let retired : new.retired ≡ old.retired = ap (λ (face : Face). face.retired) is.answers.face_is in
-    let pins : new.pins ≡ old.pins = ap (λ (face : Face). face.pins) is.answers.face_is in
+    let retired : new.retired ≡ old.retired = let left = is.same.2 in λ i. (left i).items in
+    let pins : new.pins ≡ old.pins = is.pins in
     let levels : new.levels ≡ old.levels = λ i. parts_by_level (is.same.1 i) in (
       h,
       s,
-      known_idle config h old new s (is.idle told) is.same.0 levels is.answers.face_is known,
-      subst (λ (g : History). StandsSince config opened g new) (refused_none h 0 Work why (no_failure_of_begin g.D.Disk.tells old why is.why)) (is.answers.stands told config opened h stands 0),
+      known_idle config h old new s (is.idle told) is.same.0 levels is.answers.face_is retired pins known,
+      subst (λ (g : History). StandsFor config opened g new answered) (refused_none h 0 Work why (no_failure_of_begin g.D.Disk.tells old why is.why)) (stands_call is.answers told config opened h answered stands),
       (
         Err why,
         refl,
@@ -83,7 +86,7 @@ pub returns-in-Err-clause-rounds : goal.returns-in-Err-clause-rounds
 returns-in-Err-clause-rounds g c = ap (λ (face : Face). face.rounds) c.in-Err.ensures.answers.face_is
 
 pub returns-in-Ok-clause-pinned : goal.returns-in-Ok-clause-pinned
-returns-in-Ok-clause-pinned g c = c.in-Ok.ensures.answers.pinned
+returns-in-Ok-clause-pinned g c = kept_call c.in-Ok.ensures.answers
 
 pub returns-in-Err-clause-pinned : goal.returns-in-Err-clause-pinned
-returns-in-Err-clause-pinned g c = c.in-Err.ensures.answers.pinned
+returns-in-Err-clause-pinned g c = kept_call c.in-Err.ensures.answers

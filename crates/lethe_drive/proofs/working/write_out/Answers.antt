@@ -1,11 +1,13 @@
-use Rattle.std.proofs.Common.{◌≡◌, inl, inr, Option, Some, sym, subst, ◌∙◌}
+use Rattle.std.proofs.Common.{◌≡◌, inl, inr, Option, Some, sym, ap, subst, ◌∙◌}
 use Rattle.std.specs.Result.{result_err}
 use Rattle.lethe_base.specs.declared.call.Call.TheVariants.{Work}
 use Rattle.lethe_core.specs.Asked.{Serves, behind}
 use Rattle.lethe_core.specs.View.{view_of}
 use Rattle.lethe_drive.specs.Answers.{IsWriteOut}
+use Rattle.lethe_drive.specs.Certificates.{certificates_of}
 use Rattle.lethe_drive.specs.Moments.{Going, going_of, moment_of, there_of}
 use Rattle.lethe_drive.specs.Steps.{IsAsked}
+use Rattle.lethe_drive.proofs.Certificates.{none_flagged}
 use Rattle.lethe_drive.proofs.Giving.{theirs_asked, theirs_called, theirs_sound}
 use Rattle.lethe_drive.proofs.Naming.{no_such, none_there, other_there, put_back, refused_there, there_is}
 use Rattle.lethe_drive.proofs.Kept.{kept_itself}
@@ -27,7 +29,7 @@ returns-in-Some-clause-jobs g c =
     is.flies is.refused is.works is.task
 
 pub returns-in-Some-clause-step : goal.returns-in-Some-clause-step
-returns-in-Some-clause-step g c = λ told config opened h stands s known fetches faults snapshots.
+returns-in-Some-clause-step g c = λ told config opened h answered stands s known fetches faults snapshots.
     let old = view_of c.args.engine.now.core in
     let new = view_of c.write_next.new.engine.core in
     let jobs = c.args.jobs.now in
@@ -35,7 +37,7 @@ returns-in-Some-clause-step g c = λ told config opened h stands s known fetches
     let going : Going = going_of numbered.number numbered.job in
     let result = c.write_next.result in
     let there = there_is jobs numbered c.in-Some.is in
-    let step = c.write_next.ensures.step told config opened h stands s known numbered.number fetches faults jobs.begun snapshots in (
+    let step = c.write_next.ensures.step told config opened h answered stands s known numbered.number fetches faults jobs.begun snapshots in (
       behind h 0 (Serves Work) (result_err result),
       step.0,
       step.1,
@@ -51,7 +53,7 @@ returns-in-Some-clause-step g c = λ told config opened h stands s known fetches
     )
 
 pub returns-in_default-clause-step : goal.returns-in_default-clause-step
-returns-in_default-clause-step g c = λ told config opened h stands s known fetches faults snapshots.
+returns-in_default-clause-step g c = λ told config opened h answered stands s known fetches faults snapshots.
     let view = view_of c.args.engine.now.core in
     let jobs = c.args.jobs.now in
     let number = c.args.number in
@@ -72,3 +74,6 @@ returns-in-Some-clause-pinned g c = c.write_next.ensures.pinned
 
 pub returns-in_default-clause-pinned : goal.returns-in_default-clause-pinned
 returns-in_default-clause-pinned g c = λ told. kept_itself (view_of c.args.engine.now.core)
+
+pub returns-in-Some-clause-none : goal.returns-in-Some-clause-none
+returns-in-Some-clause-none g c = ap certificates_of c.flagged.ensures ∙ none_flagged c.write_next.result

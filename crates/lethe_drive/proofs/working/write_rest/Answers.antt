@@ -22,6 +22,7 @@ loop-init g c = record {
   port = inl refl;
   pins = refl;
   pinned = λ told. kept_itself (view_of c.args.engine.now.core);
+  certificates = refl;
   rests = rests_first g.D.Disk.tells (view_of c.args.engine.now.core) c.args.job.now c.requires.works;
 }
 
@@ -38,6 +39,7 @@ loop-preserved g c =
       port = inr c.in_ok-write_next.ensures.made;
       pins = c.write_next.ensures.pins ∙ c.loop.invariant.pins;
       pinned = λ told. kept_then (view_of c.args.engine.now.core) (view_of c.loop.engine.core) (view_of c.write_next.new.engine.core) c.loop.invariant.pins (c.loop.invariant.pinned told) (c.write_next.ensures.pinned told);
+      certificates = c.write_next.ensures.certificates ∙ c.loop.invariant.certificates;
       rests = rests_on g.D.Disk.tells g.D.Disk.ports_fail (view_of c.args.engine.now.core) (view_of c.loop.engine.core) (view_of c.write_next.new.engine.core) c.loop.job c.write_next.new.job true c.loop.invariant.rests
           (subst (Turns g.D.Disk.tells g.D.Disk.ports_fail (view_of c.args.engine.now.core) (view_of c.loop.engine.core) (view_of c.write_next.new.engine.core) c.loop.job c.write_next.new.job) ok c.write_next.ensures.step);
     }
@@ -68,3 +70,9 @@ returns-clause-pinned g c = λ told. kept_then (view_of c.args.engine.now.core) 
 
 pub returns-clause-pins : goal.returns-clause-pins
 returns-clause-pins g c = c.write_next.ensures.pins ∙ c.loop.invariant.pins
+
+pub returns-in_err-write_next-clause-certificates : goal.returns-in_err-write_next-clause-certificates
+returns-in_err-write_next-clause-certificates g c = c.write_next.ensures.certificates ∙ c.loop.invariant.certificates
+
+pub returns-clause-certificates : goal.returns-clause-certificates
+returns-clause-certificates g c = c.write_next.ensures.certificates ∙ c.loop.invariant.certificates

@@ -19,6 +19,7 @@ invariant-loop g l = record {
   port : (l.job.port ≡ l.fn.job.port) ⊎ IsSome l.job.made;
   pins : l.engine.core.pins ≡ l.fn.engine.core.pins;
   pinned : g.D.Disk.tells → IsPinnedKept (view_of l.fn.engine.core) (view_of l.engine.core);
+  certificates : l.engine.certificates ≡ l.fn.engine.certificates;
   rests : Rests g.D.Disk.tells (view_of l.fn.engine.core) (view_of l.engine.core);
 }
 

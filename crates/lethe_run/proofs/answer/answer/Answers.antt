@@ -22,7 +22,7 @@ use Rattle.lethe_run.proofs.Looks.{looked_up, reads, read_answer, stat_answer, u
 use Rattle.lethe_run.proofs.Outcomes.{Outcome, ok_of, err_of, or_same}
 use Rattle.lethe_run.proofs.Shorts.{few_frozen}
 use Rattle.lethe_run.proofs.Steps.{changes}
-use Rattle.lethe_run.proofs.Ticking.{of_tick, pins_kept, tick_tells, ticks}
+use Rattle.lethe_run.proofs.Ticking.{of_tick, tick_tells, ticks}
 use Rattle.lethe_run.proofs.answer.answer.Goals as goal
 
 pub returns-in-Put-clause-served : goal.returns-in-Put-clause-served
@@ -48,7 +48,7 @@ returns-in-Put-clause-told g c =
     let held = c.args.slots.now.held.items in
     let before = slots_of old held in
     let behind = slots_of new held in
-    let kept = same_slots held old new (ap (λ (face : Face). face.pins) c.put.ensures.answers.face_is) in
+    let kept = same_slots held old new c.put.ensures.pins in
     subst (λ r. Tells Ports c.args.act r old before new behind) (sym c.changed.ensures)
     (subst (λ a. Tells Ports a (reply_of c.put.result) old before new behind) (sym c.in-Put.is)
     (change_tells g.D.Disk.tells Ports act call refl refl old new before behind kept (g.D.Disk.port_faults c.args.port.now) (g.D.Disk.port_faults c.put.new.port) c.put.result c.put.ensures.answers c.put.ensures.place c.put.ensures.why
@@ -56,10 +56,10 @@ returns-in-Put-clause-told g c =
 
 pub returns-in-Put-clause-pins : goal.returns-in-Put-clause-pins
 returns-in-Put-clause-pins g c =
-    same_holds c.args.slots.now.held.items (view_of c.args.engine.now.core) (view_of c.put.new.self.core) (ap (λ (face : Face). face.pins) c.put.ensures.answers.face_is) c.requires.pins
+    same_holds c.args.slots.now.held.items (view_of c.args.engine.now.core) (view_of c.put.new.self.core) c.put.ensures.pins c.requires.pins
 
 pub returns-in-Put-clause-made : goal.returns-in-Put-clause-made
-returns-in-Put-clause-made g c = let same = ap (λ (face : Face). face.pins.made) c.put.ensures.answers.face_is in omega (arith, same)
+returns-in-Put-clause-made g c = let same = ap (λ (face : Face). face.made) c.put.ensures.answers.face_is in omega (arith, same)
 
 pub returns-in-Put-clause-slotted : goal.returns-in-Put-clause-slotted
 returns-in-Put-clause-slotted g c =
@@ -89,7 +89,7 @@ returns-in-Delete-clause-told g c =
     let held = c.args.slots.now.held.items in
     let before = slots_of old held in
     let behind = slots_of new held in
-    let kept = same_slots held old new (ap (λ (face : Face). face.pins) c.delete.ensures.answers.face_is) in
+    let kept = same_slots held old new c.delete.ensures.pins in
     subst (λ r. Tells Ports c.args.act r old before new behind) (sym c.changed-in-Delete.ensures)
     (subst (λ a. Tells Ports a (reply_of c.delete.result) old before new behind) (sym c.in-Delete.is)
     (change_tells g.D.Disk.tells Ports act call refl refl old new before behind kept (g.D.Disk.port_faults c.args.port.now) (g.D.Disk.port_faults c.delete.new.port) c.delete.result c.delete.ensures.answers c.delete.ensures.place c.delete.ensures.why
@@ -97,10 +97,10 @@ returns-in-Delete-clause-told g c =
 
 pub returns-in-Delete-clause-pins : goal.returns-in-Delete-clause-pins
 returns-in-Delete-clause-pins g c =
-    same_holds c.args.slots.now.held.items (view_of c.args.engine.now.core) (view_of c.delete.new.self.core) (ap (λ (face : Face). face.pins) c.delete.ensures.answers.face_is) c.requires.pins
+    same_holds c.args.slots.now.held.items (view_of c.args.engine.now.core) (view_of c.delete.new.self.core) c.delete.ensures.pins c.requires.pins
 
 pub returns-in-Delete-clause-made : goal.returns-in-Delete-clause-made
-returns-in-Delete-clause-made g c = let same = ap (λ (face : Face). face.pins.made) c.delete.ensures.answers.face_is in omega (arith, same)
+returns-in-Delete-clause-made g c = let same = ap (λ (face : Face). face.made) c.delete.ensures.answers.face_is in omega (arith, same)
 
 pub returns-in-Delete-clause-slotted : goal.returns-in-Delete-clause-slotted
 returns-in-Delete-clause-slotted g c =
@@ -130,7 +130,7 @@ returns-in-Erase-clause-told g c =
     let held = c.args.slots.now.held.items in
     let before = slots_of old held in
     let behind = slots_of new held in
-    let kept = same_slots held old new (ap (λ (face : Face). face.pins) c.erase.ensures.answers.face_is) in
+    let kept = same_slots held old new c.erase.ensures.pins in
     subst (λ r. Tells Ports c.args.act r old before new behind) (sym c.changed-in-Erase.ensures)
     (subst (λ a. Tells Ports a (reply_of c.erase.result) old before new behind) (sym c.in-Erase.is)
     (change_tells g.D.Disk.tells Ports act call refl refl old new before behind kept (g.D.Disk.port_faults c.args.port.now) (g.D.Disk.port_faults c.erase.new.port) c.erase.result c.erase.ensures.answers c.erase.ensures.place c.erase.ensures.why
@@ -138,10 +138,10 @@ returns-in-Erase-clause-told g c =
 
 pub returns-in-Erase-clause-pins : goal.returns-in-Erase-clause-pins
 returns-in-Erase-clause-pins g c =
-    same_holds c.args.slots.now.held.items (view_of c.args.engine.now.core) (view_of c.erase.new.self.core) (ap (λ (face : Face). face.pins) c.erase.ensures.answers.face_is) c.requires.pins
+    same_holds c.args.slots.now.held.items (view_of c.args.engine.now.core) (view_of c.erase.new.self.core) c.erase.ensures.pins c.requires.pins
 
 pub returns-in-Erase-clause-made : goal.returns-in-Erase-clause-made
-returns-in-Erase-clause-made g c = let same = ap (λ (face : Face). face.pins.made) c.erase.ensures.answers.face_is in omega (arith, same)
+returns-in-Erase-clause-made g c = let same = ap (λ (face : Face). face.made) c.erase.ensures.answers.face_is in omega (arith, same)
 
 pub returns-in-Erase-clause-slotted : goal.returns-in-Erase-clause-slotted
 returns-in-Erase-clause-slotted g c =
@@ -287,7 +287,7 @@ returns-in-Tick-clause-told g c =
     let held = c.args.slots.now.held.items in
     let before = slots_of old held in
     let behind = slots_of new held in
-    let kept = same_slots held old new (pins_kept to old new c.tick.ensures.answers.face_is) in
+    let kept = same_slots held old new c.tick.ensures.pins in
     subst (λ r. Tells Ports c.args.act r old before new behind) (sym c.ticked.ensures)
     (subst (λ a. Tells Ports a (tick_reply_of c.count-point.result c.tick.result) old before new behind) (sym (c.in-Tick.is ∙ ap acts.Tick (sym c.get-in-Tick.ensures.number)))
     (tick_tells to old new g.D.Disk.tells Ports c.count-point.result c.count-point.ensures before behind kept c.requires.pins c.requires.sound.pins (g.D.Disk.port_faults c.args.port.now) (g.D.Disk.port_faults c.tick.new.port) c.tick.result
@@ -297,13 +297,13 @@ pub returns-in-Tick-clause-pins : goal.returns-in-Tick-clause-pins
 returns-in-Tick-clause-pins g c =
     let old = view_of c.args.engine.now.core in
     let new = view_of c.tick.new.self.core in
-    same_holds c.args.slots.now.held.items old new (pins_kept c.get-in-Tick.result old new c.tick.ensures.answers.face_is) c.requires.pins
+    same_holds c.args.slots.now.held.items old new c.tick.ensures.pins c.requires.pins
 
 pub returns-in-Tick-clause-made : goal.returns-in-Tick-clause-made
 returns-in-Tick-clause-made g c =
     let old = view_of c.args.engine.now.core in
     let new = view_of c.tick.new.self.core in
-    let same = ap (λ (pins : Held). pins.made) (pins_kept c.get-in-Tick.result old new c.tick.ensures.answers.face_is) in
+    let same = ap (λ (pins : Held). pins.made) c.tick.ensures.pins in
     omega (arith, same)
 
 pub returns-in-Tick-clause-slotted : goal.returns-in-Tick-clause-slotted

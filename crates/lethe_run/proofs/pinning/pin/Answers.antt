@@ -1,9 +1,10 @@
-use Rattle.std.proofs.Common.{Some, None, refl, sym, ap, ◌∙◌, subst}
+use Rattle.std.proofs.Common.{Some, None, Ok, refl, sym, ap, ◌∙◌, subst}
 use Rattle.std.specs.Result.{result_err}
 use Rattle.lethe_base.specs.declared.call.Call.TheVariants.{Work}
 use Rattle.lethe_core.specs.Asked.{Serves}
 use Rattle.lethe_core.specs.View.{face_of, view_of}
 use Rattle.lethe_engine.specs.Answers.{Answers}
+use Rattle.lethe_engine.specs.Pins.{pinned_face}
 use Rattle.lethe_run.specs.Holding.{pin_of, slots_of}
 use Rattle.lethe_run.specs.Serving.{opened_in}
 use Rattle.lethe_run.proofs.Holding.{behind_free, held_more, holds_more, pin_at, shown_now, shown_set, slots_more, ten_of}
@@ -30,8 +31,8 @@ returns-in-Ok-clause-served g c = λ told begin from h caller on.
     let old = view_of c.args.engine.now.core in
     let new = view_of c.pin.new.self.core in
     let is = c.in-Ok.ensures in
-    let none_refused = subst (λ r. Answers g.D.Disk.tells (Serves Work) (result_err r) (record (face_of old) { pins = new.pins }) old new) c.in-Ok.is c.pin.ensures.answers in
-    pin_served g.D.Disk.ports_fail begin from h caller old new on (looked g.D.Disk.tells told begin from h old new on None (record (face_of old) { pins = new.pins }) none_refused refl) c.args.slot.now c.point-point.result c.number-number.result c.limit-limit.result
+    let none_refused = subst (λ r. Answers g.D.Disk.tells (Serves Work) (result_err r) (pinned_face (face_of old) r) old new) c.in-Ok.is c.pin.ensures.answers in
+    pin_served g.D.Disk.ports_fail begin from h caller old new on (looked g.D.Disk.tells told begin from h old new on None (pinned_face (face_of old) (Ok c.in-Ok.snapshot)) none_refused refl) c.args.slot.now c.point-point.result c.number-number.result c.limit-limit.result
     (c.point-point.ensures ∙ is.point) (rw c.limit-limit.ensures (is.near told begin.config (opened_in begin from on.counted) h on.stands))
 
 pub returns-in-Ok-clause-shown : goal.returns-in-Ok-clause-shown

@@ -26,8 +26,8 @@ returns-in_default-clause-made g c =
     let runs = runs_so c.stopped.result old.state.stopped c.is_some.result c.stopped.ensures c.is_some.ensures c.if-is_some.false in
     let pushed : behind ≡ before ++ done_lines c.args.caller old.state.count done = c.push_done.ensures.lines ∙ ap (λ n. before ++ done_lines c.args.caller n done) c.count-count.ensures in (
       is.row.rest,
-      (λ all. row_whole g.D.Disk.tells g.D.Disk.ports_fail c.args.caller changes left done why old new is runs before behind c.in_default.is),
-      row_unfailed g.D.Disk.tells g.D.Disk.ports_fail c.args.caller changes left done why old new is runs before behind
+      (λ all. row_whole g.D.Disk.tells g.D.Disk.ports_fail c.args.caller changes left done why old new is c.change_row-done.ensures.pins runs before behind c.in_default.is),
+      row_unfailed g.D.Disk.tells g.D.Disk.ports_fail c.args.caller changes left done why old new is c.change_row-done.ensures.pins runs before behind
           (λ place faults now failed. let clash : None ≡ Some (refused.Fault place faults now) = sym c.in_default.is ∙ failed in cc) pushed,
     )
 
@@ -54,7 +54,7 @@ returns-in_default-why g c =
       made = (
         is.row.rest,
         (λ all. absurd (false≢true all)),
-        row_unfailed g.D.Disk.tells g.D.Disk.ports_fail c.args.caller changes left done why old new is runs before behind never pushed,
+        row_unfailed g.D.Disk.tells g.D.Disk.ports_fail c.args.caller changes left done why old new is c.change_row-done.ensures.pins runs before behind never pushed,
       );
       fewer = omega (arith, fewer, size);
       room = omega (arith, fewer, size, len);
@@ -79,7 +79,7 @@ returns-clause-made g c =
     let fault : c.push.new.self.items ≡ c.push_done.new.lines.items ++ line ∷ [] = search rules in (
       [],
       (λ all. sym c.clear.ensures.items),
-      row_fault g.D.Disk.tells g.D.Disk.ports_fail c.args.caller changes left done why old new is runs before c.push_stopped.new.lines.items place c.in-Fault.before c.in-Fault.after many
+      row_fault g.D.Disk.tells g.D.Disk.ports_fail c.args.caller changes left done why old new is c.change_row-done.ensures.pins runs before c.push_stopped.new.lines.items place c.in-Fault.before c.in-Fault.after many
           (c.in-Some.is ∙ ap Some c.in-Fault.is) (ap (λ n. n - done - 1) (c.len-asked.ensures ∙ c.args.row.now.ok.0))
           (c.push_stopped.ensures.lines ∙ ap (λ l. l ++ stopped_lines c.args.caller place many) (fault ∙ ap (λ l. l ++ line ∷ []) dones)),
     )

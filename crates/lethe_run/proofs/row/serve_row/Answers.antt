@@ -114,7 +114,7 @@ rows-preserved g c =
     subst (λ b. IsStretch Tells Ports (cond b (order ∷ []) []) act.0 amid held new left) ok act.2 in
     let face = made.2.face in
     let same_rounds = ap (λ (f : Face). f.rounds) face in
-    let same_made = ap (λ (f : Face). f.pins.made) face in
+    let same_made = ap (λ (f : Face). f.made) face in
     let fewer = c.make_row.ensures.fewer in
     let one_less = ap length taken in
     record {

@@ -10,10 +10,10 @@ use Rattle.lethe_run.proofs.script.serve_script.Goals as goal
 
 pub serve_phases-requires-clause-pins : goal.serve_phases-requires-clause-pins
 serve_phases-requires-clause-pins g c κs within =
-    still_holds (view_of c.args.engine.core) (view_of c.new_port.new.self.core) no_slots (ap (λ (face : Face). face.pins) c.in-Ok.ensures.answers.face_is) c.requires.pins
+    still_holds (view_of c.args.engine.core) (view_of c.new_port.new.self.core) no_slots c.in-Ok.ensures.pins c.requires.pins
 
 pub serve_phases-requires-clause-made : goal.serve_phases-requires-clause-made
-serve_phases-requires-clause-made g c = let same = ap (λ (face : Face). face.pins.made) c.in-Ok.ensures.answers.face_is in let most = c.requires.made in omega (arith, same, most)
+serve_phases-requires-clause-made g c = let same = ap (λ (face : Face). face.made) c.in-Ok.ensures.answers.face_is in let most = c.requires.made in omega (arith, same, most)
 
 pub returns-in-Ok-new-clause-ends : goal.returns-in-Ok-new-clause-ends
 returns-in-Ok-new-clause-ends g c =

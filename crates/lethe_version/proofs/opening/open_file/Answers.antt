@@ -7,13 +7,14 @@ use Rattle.lethe_disk.proofs.Quieting.{quiet_itself, quiet_then}
 use Rattle.lethe_file.specs.Agreement.{page_name}
 use Rattle.lethe_header.specs.Facts.{lines_of}
 use Rattle.lethe_header.specs.declared.header.PageLine.{PageLine}
-use Rattle.lethe_version.proofs.Opened.{lines_more, tile_opened, all_of_tile}
+use Rattle.lethe_version.proofs.Opened.{lines_more, calls_more, calls_within, tile_opened, all_of_tile}
 use Rattle.lethe_version.proofs.opening.open_file.Goals as goal
 
 pub loop-tile-init : goal.loop-tile-init
 loop-tile-init g c = record {
   quiet = λ told. quiet_itself (g.D.Disk.seen c.args.disk.now);
   faults = omega arith;
+  soon = λ told. omega arith;
   count = ap length c.new-pages.ensures.items;
   pages = λ told. ap (map (λ page. Some (g.D.Disk.page_bytes page.value))) c.new-pages.ensures.items;
 }
@@ -36,6 +37,8 @@ loop-tile-preserved g c =
     record {
       quiet = λ told. quiet_then (g.D.Disk.seen c.args.disk.now) (g.D.Disk.seen c.loop-tile.disk) (g.D.Disk.seen c.open_pages.new.disk) (c.loop-tile.invariant.quiet told) (c.open_pages.ensures.quiet told);
       faults = omega (arith, c.loop-tile.invariant.faults, c.open_pages.ensures.cause.later);
+      soon = λ told. calls_more tiles i c.tile-item.result c.items.result.now c.loop-tile-test.true c.tile-item.is c.items.ensures (g.D.Disk.seen c.args.disk.now).moment
+          (g.D.Disk.seen c.loop-tile.disk).moment (g.D.Disk.seen c.open_pages.new.disk).moment (c.loop-tile.invariant.soon told) (c.open_pages.ensures.soon told);
       count = c.in_ok-open_pages.ensures.count ∙ (λ k. c.loop-tile.invariant.count k + length (c.items.ensures k)) ∙ sym (length-append (lines_of (take i tiles)) c.tile-item.result.pages) ∙ ap length (sym more);
       pages = λ told.
           let d = (g.D.Disk.seen c.args.disk.now).directory in
@@ -59,3 +62,20 @@ returns-clause-pages g c = λ told.
 
 pub returns-clause-quiet : goal.returns-clause-quiet
 returns-clause-quiet g c = c.loop-tile.invariant.quiet
+
+pub returns-in_err-open_pages-clause-soon : goal.returns-in_err-open_pages-clause-soon
+returns-in_err-open_pages-clause-soon g c = λ told.
+    let i = c.loop-tile.tile-index in
+    let tiles = c.items-tile-items.result.now in
+    let s0 = g.D.Disk.seen c.args.disk.now in
+    let s2 = g.D.Disk.seen c.open_pages.new.disk in
+    calls_within tiles c.args.header.tiles (i + 1) s0.moment s2.moment c.items-tile-items.ensures
+    (calls_more tiles i c.tile-item.result c.items.result.now c.loop-tile-test.true c.tile-item.is c.items.ensures s0.moment (g.D.Disk.seen c.loop-tile.disk).moment s2.moment (c.loop-tile.invariant.soon told) (c.open_pages.ensures.soon told))
+
+pub returns-clause-soon : goal.returns-clause-soon
+returns-clause-soon g c = λ told.
+    calls_within c.items-tile-items.result.now c.args.header.tiles c.loop-tile.tile-index (g.D.Disk.seen c.args.disk.now).moment (g.D.Disk.seen c.loop-tile.disk).moment c.items-tile-items.ensures (c.loop-tile.invariant.soon told)
+
+pub returns-in_err-new-clause-soon : goal.returns-in_err-new-clause-soon
+returns-in_err-new-clause-soon g c = λ told.
+    calls_within c.items-tile-items.result.now c.args.header.tiles c.loop-tile.tile-index (g.D.Disk.seen c.args.disk.now).moment (g.D.Disk.seen c.loop-tile.disk).moment c.items-tile-items.ensures (c.loop-tile.invariant.soon told)

@@ -12,6 +12,7 @@ pub loop-line-init : goal.loop-line-init
 loop-line-init g c = record {
   quiet = λ told. quiet_itself (g.D.Disk.seen c.args.disk.now);
   faults = omega arith;
+  soon = λ told. omega arith;
   count = omega arith;
   pages = λ told. sym (append-nil (map (λ page. Some (g.D.Disk.page_bytes page.value)) c.args.pages.now.items));
 }
@@ -35,6 +36,7 @@ loop-line-preserved g c =
     record {
       quiet = λ told. quiet_then (g.D.Disk.seen c.args.disk.now) (g.D.Disk.seen c.loop-line.disk) (g.D.Disk.seen c.open_page.new.disk) (c.loop-line.invariant.quiet told) (c.open_page.ensures.quiet told);
       faults = omega (arith, c.loop-line.invariant.faults, c.open_page.ensures.cause.later);
+      soon = λ told. let so_far = c.loop-line.invariant.soon told in let next = c.open_page.ensures.soon told in omega (arith, so_far, next);
       count = omega (arith, ap length pushed, length-append c.loop-line.pages.items (page ∷ []), c.loop-line.invariant.count);
       pages = λ told.
           let d = (g.D.Disk.seen c.args.disk.now).directory in

@@ -8,6 +8,7 @@ abbrev pub invariant-loop-line : goal.invariant-loop-line
 invariant-loop-line g l = record {
   quiet : g.D.Disk.tells → IsQuiet (g.D.Disk.seen l.fn.disk) (g.D.Disk.seen l.disk);
   faults : g.D.Disk.faults l.fn.disk ≤ g.D.Disk.faults l.disk;
+  soon : g.D.Disk.tells → (g.D.Disk.seen l.disk).moment ≤ (g.D.Disk.seen l.fn.disk).moment + l.line-index;
   count : length l.pages.items ≡ length l.fn.pages.items + l.line-index;
   pages : g.D.Disk.tells → map (λ page. Some (g.D.Disk.page_bytes page.value)) l.pages.items
       ≡ map (λ page. Some (g.D.Disk.page_bytes page.value)) l.fn.pages.items ++ map (λ line. object (g.D.Disk.seen l.fn.disk).directory (page_name line.no)) (take l.line-index l.lines);

@@ -1,4 +1,4 @@
-use Rattle.std.proofs.Common.{rules, ◌≡◌, Some, Result, Err, sym, ap, ◌∙◌, subst}
+use Rattle.std.proofs.Common.{rules, ◌≡◌, Some, Result, Err, sym, ap, ◌∙◌, subst, arith}
 use Rattle.std.specs.Prelude.{IfErr, option_map}
 use Rattle.std.specs.Result.{result_err}
 use Rattle.lethe_base.specs.declared.refused.Refused.{Refused}
@@ -115,3 +115,20 @@ returns-clause-done g c =
     next_done IsFlushed g.D.Disk.tells old headers step c.args.before c.requires.may (flushed_next g.D.Disk.tells old c.requires.may.sound.drawn headers step c.in_ok-headers.ensures.flushes)
     new (λ h s t holds for is. flush_for h s t holds.remembers.coherent for is) carried
     (λ told s t holds made is. flushed_holds g.D.Disk.tells s t old new headers step carried told holds is made new_is (laws.itself told c.args.self.now.disk))
+
+pub returns-clause-most : goal.returns-clause-most
+returns-clause-most g c = λ told.
+    let step = c.in_ok-headers.step in
+    let from = c.in_ok-headers.ensures.step in
+    let new_is : c.flush.new.self ≡ unfrozen step.manifest c.args.self.now.state = c.flush.ensures.is ∙ ap (unfrozen step.manifest) c.in_ok-carry_out.ensures.state in
+    omega (arith, c.in_ok-carry_out.ensures.most told, c.in_ok-headers.ensures.calls, from.numbers, from.next, ap (λ (state : State). state.next) new_is)
+
+pub returns-in_err-carry_out-clause-soon : goal.returns-in_err-carry_out-clause-soon
+returns-in_err-carry_out-clause-soon g c = λ told.
+    let drafted = c.in_ok-headers.ensures.drafted in
+    omega (arith, c.carry_out.ensures.soon told, c.in_ok-headers.ensures.calls, drafted.1.few, drafted.2)
+
+pub returns-clause-soon : goal.returns-clause-soon
+returns-clause-soon g c = λ told.
+    let drafted = c.in_ok-headers.ensures.drafted in
+    omega (arith, c.carry_out.ensures.soon told, c.in_ok-headers.ensures.calls, drafted.1.few, drafted.2)

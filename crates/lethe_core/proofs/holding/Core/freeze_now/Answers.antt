@@ -1,7 +1,8 @@
-use Rattle.std.proofs.Common.{rules, ◌≡◌, Some, Result, Err, sym, ap, ◌∙◌, subst}
+use Rattle.std.proofs.Common.{rules, ◌≡◌, Some, Result, Err, sym, ap, ◌∙◌, subst, arith}
 use Rattle.std.specs.Prelude.{IfErr, option_map}
 use Rattle.std.specs.Result.{result_err}
 use Rattle.lethe_base.specs.declared.refused.Refused.{Refused}
+use Rattle.lethe_advance.specs.Calls.{most_calls}
 use Rattle.lethe_state.specs.Room.{IsFrozen, IsFrozenWith, IsStepFrom}
 use Rattle.lethe_state.specs.declared.state.State.{State}
 use Rattle.lethe_core.specs.Keeps.{Keeps}
@@ -112,3 +113,21 @@ returns-clause-done g c =
     next_done IsFrozen g.D.Disk.tells old headers step c.args.before c.requires.may (frozen_next g.D.Disk.tells old c.requires.may.sound.drawn headers step c.requires.may.sound.writable c.new.ensures.items c.in_ok-step.ensures.freezes)
     new (λ h s t holds for is. frozen_for h s t old.state old.levels holds.remembers (not_frozen s old.state old.levels holds.remembers c.requires.unfrozen) for is) carried
     (λ told s t holds made is. frozen_holds g.D.Disk.tells s t old new headers step carried told holds is made c.requires.unfrozen with)
+
+pub returns-clause-most : goal.returns-clause-most
+returns-clause-most g c = λ told.
+    let step = c.in_ok-step.step in
+    let same = ap (λ headers. most_calls headers step) c.new.ensures.items in
+    omega (arith, c.in_ok-carry_out.ensures.most told, same, c.in_ok-step.ensures.calls.0)
+
+pub returns-in_err-carry_out-clause-soon : goal.returns-in_err-carry_out-clause-soon
+returns-in_err-carry_out-clause-soon g c = λ told.
+    let step = c.in_ok-step.step in
+    let same = ap (λ headers. most_calls headers step) c.new.ensures.items in
+    omega (arith, c.carry_out.ensures.soon told, same, c.in_ok-step.ensures.calls.0, c.in_ok-step.ensures.calls.1)
+
+pub returns-clause-soon : goal.returns-clause-soon
+returns-clause-soon g c = λ told.
+    let step = c.in_ok-step.step in
+    let same = ap (λ headers. most_calls headers step) c.new.ensures.items in
+    omega (arith, c.carry_out.ensures.soon told, same, c.in_ok-step.ensures.calls.0, c.in_ok-step.ensures.calls.1)

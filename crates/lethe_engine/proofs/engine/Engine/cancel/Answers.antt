@@ -69,3 +69,6 @@ returns-clause-answers g c =
     subst (λ face. Answers g.D.Disk.tells (Serves Work) (result_err result) face old new) (now ∙ sym (cancelled_now old c.args.job present ∙ given_up_now (face_of old) old.state runs (omega (arith, left, count))))
     (step_answers g.D.Disk.tells ⊥ (result_err result) old new c.faults-before.result runs c.faults-before.ensures c.cancel_now.ensures.keeps
     (if_refused result (HasReason ⊥ old.state c.faults-before.result new.faults) c.cancel_now.ensures.why) (if_refused result (IsUndone g.D.Disk.tells old new) c.cancel_now.ensures.undone))
+
+pub returns-clause-pins : goal.returns-clause-pins
+returns-clause-pins g c = c.cancel_now.ensures.keeps.pins

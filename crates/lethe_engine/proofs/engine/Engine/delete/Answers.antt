@@ -132,3 +132,9 @@ returns-clause-entered g c = λ has.
     on_ok c.record.result _ _ c.record.ensures.entered (λ entered.
     let both = subst (λ core. IsDeleteRecord core.state (headers_in (parts_by_level core.version)) c.args.key next × HasEntered next core.state new) same (c.delete_record-next.ensures.is, entered) in
     (next, both.0, both.1))
+
+pub returns-in_err-make_room-clause-pins : goal.returns-in_err-make_room-clause-pins
+returns-in_err-make_room-clause-pins g c = c.in_err-make_room.ensures.keeps.pins
+
+pub returns-clause-pins : goal.returns-clause-pins
+returns-clause-pins g c = c.record.ensures.pins ∙ c.in_ok-make_room.ensures.keeps.pins

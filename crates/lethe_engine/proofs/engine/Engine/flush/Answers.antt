@@ -45,3 +45,9 @@ returns-in-Err-clause-answers g c =
 
 pub returns-in-Ok-clause-done : goal.returns-in-Ok-clause-done
 returns-in-Ok-clause-done g c = λ told s holds done. c.in-Ok.ensures.done told s holds
+
+pub returns-in-Ok-clause-pins : goal.returns-in-Ok-clause-pins
+returns-in-Ok-clause-pins g c = c.in-Ok.ensures.keeps.pins
+
+pub returns-in-Err-clause-pins : goal.returns-in-Err-clause-pins
+returns-in-Err-clause-pins g c = c.in-Err.ensures.keeps.pins

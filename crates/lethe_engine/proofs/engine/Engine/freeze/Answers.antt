@@ -42,3 +42,9 @@ returns-in-Err-clause-answers g c =
     let new = view_of c.freeze_now.new.self in
     subst (λ face. Answers g.D.Disk.tells (Serves Work) (Some c.in-Err.why) face old new) (jobs_same core c.freeze_now.new.self c.freeze_now.ensures.begun c.freeze_now.ensures.flight c.in-Err.ensures.keeps.pins)
     (step_answers g.D.Disk.tells (IsShortToFreeze old.state) (Some c.in-Err.why) old new c.faults-before.result c.in_ok-may_change.ensures.fits.0 c.faults-before.ensures c.in-Err.ensures.keeps c.in-Err.ensures.why c.in-Err.ensures.undone)
+
+pub returns-in-Ok-clause-pins : goal.returns-in-Ok-clause-pins
+returns-in-Ok-clause-pins g c = c.in-Ok.ensures.keeps.pins
+
+pub returns-in-Err-clause-pins : goal.returns-in-Err-clause-pins
+returns-in-Err-clause-pins g c = c.in-Err.ensures.keeps.pins

@@ -108,3 +108,6 @@ pub returns-clause-named : goal.returns-clause-named
 returns-clause-named g c =
     let new = view_of c.install_now.new.self in
     on_ok c.install_now.result ((c.install_now.new.self.flight ≡ None) × AreNamed new.pins.pins new.retired) (AreNamed new.pins.pins new.retired) c.install_now.ensures.free (λ free. free.1)
+
+pub returns-clause-pins : goal.returns-clause-pins
+returns-clause-pins g c = c.install_now.ensures.keeps.pins

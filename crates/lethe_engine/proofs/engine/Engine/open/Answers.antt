@@ -78,3 +78,6 @@ pub returns-in-Err-clause-untouched : goal.returns-in-Err-clause-untouched
 returns-in-Err-clause-untouched g c = λ told.
     untouched_by g.D.Disk.tells c.args.config.now (g.D.Disk.seen c.args.disk) (g.D.Disk.seen c.open.new.disk) (g.D.Disk.faults c.args.disk) (g.D.Disk.faults c.open.new.disk) c.in-Err.why told
     c.in-Err.ensures.refused (λ reason is. c.open.ensures.untouched told reason is) (λ last is. (c.in-Err.ensures.exhausted told last (ap Err is)).0)
+
+pub returns-in-Ok-opened-clause-nothing : goal.returns-in-Ok-opened-clause-nothing
+returns-in-Ok-opened-clause-nothing g c = (c.new.ensures.items, c.new-in-Ok-opened.ensures)

@@ -117,3 +117,9 @@ returns-clause-entered g c = λ has.
     let new = c.record.new.self.state in
     on_ok c.record.result _ _ c.record.ensures.entered
     (λ entered. subst (λ core. HasEntered (put_record core.state c.args.key c.args.dkey c.args.value) core.state new) same (subst (λ next. HasEntered next mid new) c.put_record-next.ensures.is entered))
+
+pub returns-in_err-make_room-clause-pins : goal.returns-in_err-make_room-clause-pins
+returns-in_err-make_room-clause-pins g c = c.in_err-make_room.ensures.keeps.pins
+
+pub returns-clause-pins : goal.returns-clause-pins
+returns-clause-pins g c = c.record.ensures.pins ∙ c.in_ok-make_room.ensures.keeps.pins

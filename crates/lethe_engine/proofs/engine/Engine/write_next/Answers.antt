@@ -67,3 +67,6 @@ write_now-requires-clause-copied g c κs within = λ told s holds.
     let bytes : c.next_page.result.now ≡ get_or (pages_of there.0) job.written [] = c.next_page.ensures ∙ ap (λ (o : Option Made). option_map_or (λ made. get_or (pages_of made) job.written []) o []) there.1 in
     subst (λ (bytes : List ℕ). IsCopied s (page_name view.state.next, bytes)) (sym bytes)
     (next_copied g.D.Disk.tells view job works s holds told view.state.next there.0 there.1 there.2)
+
+pub returns-clause-pins : goal.returns-clause-pins
+returns-clause-pins g c = c.write_now.ensures.keeps.pins

@@ -12,6 +12,7 @@ use Rattle.lethe_mem.specs.Buffered.{Buffered}
 use Rattle.lethe_merge.specs.Merge.{merged}
 use Rattle.lethe_state.specs.Room.{AreDrafted, buffered, frozen_len}
 use Rattle.lethe_state.specs.declared.state.State.{State}
+use Rattle.lethe_state.proofs.Calls.{flush_calls}
 use Rattle.lethe_state.proofs.FlushStep.{flush_steps}
 use Rattle.lethe_state.proofs.Leveled.{headers_same}
 use Rattle.lethe_state.proofs.state.State.flushing.Goals as goal
@@ -41,3 +42,8 @@ returns-in-Ok-clause-drafted g c =
     let drafts = c.in_ok-drafts.drafts.items in
     let are = drafted c.args.self.now c.unwrap-frozen.result.now c.is_clear-alone.result drafts (search rules) c.in_ok-drafts.ensures.are c.in_ok-drafts.ensures.few in
     (drafts, are, c.in-Ok.ensures.few)
+
+pub returns-in-Ok-clause-calls : goal.returns-in-Ok-clause-calls
+returns-in-Ok-clause-calls g c =
+    let made = c.in-Ok.ensures.made c.unwrap-frozen.result.now.entries c.is_clear-alone.result c.in_ok-drafts.ensures.are in
+    flush_calls made.0 made.1 c.args.self.now _ _ made.2 made.4

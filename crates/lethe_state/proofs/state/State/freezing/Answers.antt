@@ -1,4 +1,4 @@
-use Rattle.std.proofs.Common.{◌≡◌, ◌+◌, ◌<◌, rules, Option, Some, None, refl, subst}
+use Rattle.std.proofs.Common.{◌≡◌, ◌+◌, ◌<◌, rules, Option, Some, None, length, refl, subst, ap, arith}
 use Rattle.lethe_base.specs.Limits.{max_place}
 use Rattle.lethe_stored.specs.Stored.{Segment}
 use Rattle.lethe_state.specs.Remembered.{IsFrozenIn}
@@ -20,3 +20,6 @@ pub returns-in-Ok-clause-step : goal.returns-in-Ok-clause-step
 returns-in-Ok-clause-step c =
     let free : c.args.self.now.next + 1 < max_place = search rules in
     freeze_from c.args.self.now c.in-Ok.step c.requires.writable c.requires.unfrozen free c.in-Ok.ensures.objects c.in-Ok.ensures.manifest
+
+pub returns-in-Ok-clause-calls : goal.returns-in-Ok-clause-calls
+returns-in-Ok-clause-calls c = let made = ap length c.in-Ok.ensures.objects in let gone = ap length c.in-Ok.ensures.gone in (omega (arith, made, gone), made)
