@@ -11,7 +11,8 @@ ghost use Rattle.lethe_advance.specs.Shown.{parts_by_level};
 ghost use Rattle.lethe_file.specs.Agreement.{page_name};
 ghost use Rattle.lethe_header.specs.Facts.{lines_of};
 ghost use Rattle.lethe_pins.specs.Held.{Ascend, without};
-ghost use Rattle.lethe_snapshot.specs.Points.{IsOf};
+ghost use Rattle.lethe_snapshot.specs.Points.{IsOf, IsTaken};
+ghost use Rattle.lethe_snapshot.specs.Times.{IsLimitBy};
 ghost use Rattle.lethe_state.specs.Remembered.{Remembers};
 ghost use Rattle.lethe_stored.specs.Kept.{IsFor};
 ghost use Rattle.lethe_stored.specs.Stored.{Stored, layout_of};
@@ -25,7 +26,7 @@ use crate::Core;
 use lethe_base::{Kind, MAX_PLACE, Name, NoMemory, Refused};
 use lethe_disk::Disk;
 use lethe_header::PageLine;
-use lethe_snapshot::{Snapshot, limit_of};
+use lethe_snapshot::{Contents, Snapshot, limit_of};
 use lethe_version::{Shared, Version};
 use std::alloc::Global;
 
@@ -43,34 +44,35 @@ impl<D: Disk> Core<D> {
         ensures held { D.tells → (s : Stored) → Holds (view_of self.old) s → Holds (view_of self.new) s }
 
         // It has the next number, and shows what is stored at the history's length.
-        ensures number { IfOk result (λ snapshot. snapshot.number ≡ self.old.pins.made + 1) }
+        ensures number { IfOk result (λ snapshot. snapshot.pin.number ≡ self.old.pins.made + 1) }
         ensures point { IfOk result (λ snapshot. snapshot.point ≡ self.old.state.count) }
         ensures of { (s : Stored) (h : History) → Remembers s self.old.state (view_of self.old).levels → IsFor h s → IfOk result (IsOf h) }
-        ensures limit { (s : Stored) → Remembers s self.old.state (view_of self.old).levels → IfOk result (λ snapshot. IsLimit s.manifest.config.threshold (layout_of s) snapshot.limit) }
+        ensures limit { (s : Stored) → Remembers s self.old.state (view_of self.old).levels → IfOk result (λ snapshot. IsLimit s.manifest.config.threshold (layout_of s) snapshot.pin.limit) }
+
+        // On any disk: it has what the store has in memory, and its files; its limit is taken from what is remembered and from the files' lines.
+        ensures taken { IfOk result (IsTaken self.old.state (view_of self.old).levels) }
+        ensures by { IfOk result (λ snapshot. IsLimitBy self.old.state (view_of self.old).levels snapshot.pin.limit) }
 
         // The pin comes in its place among those that are held, and nothing else changes.
-        ensures pinned { IfOk result (λ snapshot. IsPinOf (view_of self.old) (view_of self.new) snapshot.number snapshot.limit) }
+        ensures pinned { IfOk result (λ snapshot. IsPinOf (view_of self.old) (view_of self.new) snapshot.pin.number snapshot.pin.limit) }
         ensures same { self.new ≡ record self.old { pins = self.new.pins } }
         ensures unchanged { OnErr result (self.new ≡ self.old) }
         ensures exhausted { IsErrOf result (refused.Exhausted max_place) ↔ self.old.pins.made ≡ max_place }
         ensures why { IfErr result (λ why. (why ≡ refused.Exhausted max_place) ⊎ (why ≡ refused.NoMemory)) }
     {
-        let Some(number) = self.pins.next_number() else {
+        if self.pins.next_number().is_none() {
             return Err(Refused::Exhausted { last: MAX_PLACE });
-        };
+        }
         let Ok(names) = page_names(alloc, &self.version) else {
             return Err(Refused::NoMemory);
         };
-        let limit = limit_of(&self.state, &self.version);
-        let Ok(snapshot) = Snapshot::of(alloc, &self.state, &self.version, number, limit) else {
+        let Ok(contents) = Contents::of(alloc, &self.state, &self.version) else {
             return Err(Refused::NoMemory);
         };
+        let limit = limit_of(&self.state, &self.version);
         match self.pins.pin(names, limit) {
-            Ok(_) => Ok(snapshot),
-            Err(why) => {
-                snapshot.release();
-                Err(why)
-            }
+            Ok(pin) => Ok(Snapshot::of(contents, pin)),
+            Err(why) => Err(why),
         }
     }
 
@@ -80,10 +82,10 @@ impl<D: Disk> Core<D> {
         ensures sound { IsSound D.tells (view_of self.new) }
         ensures stands { D.tells → (config : Fields) (h : History) → StandsNow config h (view_of self.old) → StandsNow config h (view_of self.new) }
         ensures held { D.tells → (s : Stored) → Holds (view_of self.old) s → Holds (view_of self.new) s }
-        ensures same { self.new ≡ record self.old { pins = record self.old.pins { pins = without snapshot.number self.old.pins.pins } } }
+        ensures same { self.new ≡ record self.old { pins = record self.old.pins { pins = without snapshot.pin.number self.old.pins.pins } } }
     {
-        let number = snapshot.release();
-        self.pins.unpin(number);
+        let pin = snapshot.release();
+        self.pins.unpin(pin);
     }
 }
 

@@ -91,7 +91,7 @@ module _ (h : History) (old new : View) (s : Stored) (fetches faults begun : ℕ
 -- By its number
 
 abbrev pub number_of : {D Page Port : Type 0} {kind : Ghosts D Page Port} → Snapshot D Page Port kind → ℕ
-number_of snapshot = snapshot.number
+number_of snapshot = snapshot.pin.number
 
 module _ {D Page Port : Type 0} {kind : Ghosts D Page Port} (items : List (Snapshot D Page Port kind)) where
   -- there is none
@@ -101,12 +101,12 @@ module _ {D Page Port : Type 0} {kind : Ghosts D Page Port} (items : List (Snaps
       All-contains (λ snapshot. number_of snapshot ≢ number) items found.0 none found.1 found.2
 
   -- with one more
-  pub pushed_numbers : (snapshot : Snapshot D Page Port kind) → numbers_of (items ++ snapshot ∷ []) ≡ numbers_of items ++ snapshot.number ∷ []
+  pub pushed_numbers : (snapshot : Snapshot D Page Port kind) → numbers_of (items ++ snapshot ∷ []) ≡ numbers_of items ++ snapshot.pin.number ∷ []
   pushed_numbers snapshot = map-append number_of items (snapshot ∷ [])
 
   -- one among the others
   pub among_numbers : (place : ℕ) (within : place < length items) (snapshot : Snapshot D Page Port kind) → snapshot ≡ get_or items place snapshot
-      → numbers_of items ≡ numbers_of (front items place within) ++ snapshot.number ∷ numbers_of (back items place within)
+      → numbers_of items ≡ numbers_of (front items place within) ++ snapshot.pin.number ∷ numbers_of (back items place within)
   among_numbers place within snapshot is = ap numbers_of (among items place within snapshot is) ∙ map-append number_of (front items place within) (snapshot ∷ back items place within)
 
   -- without it

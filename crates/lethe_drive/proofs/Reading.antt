@@ -10,7 +10,7 @@ use Rattle.lethe_base.specs.declared.refused.Refused.TheVariants.{Fault, Stopped
 use Rattle.lethe_stored.specs.Stored.{Stored}
 use Rattle.lethe_core.specs.Reasons.{IsUnreadable}
 use Rattle.lethe_core.specs.View.{View}
-use Rattle.lethe_engine.specs.Reads.{IsReadRefusal}
+use Rattle.lethe_read.specs.Refusals.{IsReadRefusal}
 use Rattle.lethe_drive.specs.Answers.{IsRead, ReadAnswers}
 use Rattle.lethe_drive.specs.Moments.{Going, IsAllButPort, moment_of}
 

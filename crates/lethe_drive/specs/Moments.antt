@@ -106,7 +106,7 @@ there_of jobs = option_map (λ numbered. going_of numbered.number numbered.job) 
 
 -- the numbers of a run's pins
 abbrev pub numbers_of : {D Page Port : Type 0} {kind : Ghosts D Page Port} → List (Snapshot D Page Port kind) → List ℕ
-numbers_of snapshots = map (λ snapshot. snapshot.number) snapshots
+numbers_of snapshots = map (λ snapshot. snapshot.pin.number) snapshots
 
 -- read off a store, a port with these counts, how many jobs were begun, the one that hasn't ended, and the run's pins
 abbrev pub moment_of : View → Stored → ℕ → ℕ → ℕ → Option Going → List ℕ → Moment

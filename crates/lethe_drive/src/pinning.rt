@@ -51,7 +51,7 @@ pub(crate) fn pin<D: Disk>(
 /// Where the pin of this number is among those of the run.
 fn pin_place<D: Disk>(snapshots: &[Snapshot<D>], number: u64) -> Option<usize>
     ensures within { IfSome result (λ place. place < length snapshots.now) }
-    ensures first { result ≡ position (λ snapshot. snapshot.number == number) snapshots.now }
+    ensures first { result ≡ position (λ snapshot. snapshot.pin.number == number) snapshots.now }
 {
     snapshots
         .iter()

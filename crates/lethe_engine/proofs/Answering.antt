@@ -1,6 +1,6 @@
 -- What reads answer over what is remembered.
-use Rattle.std.proofs.Common.{◌≡◌, ◌⊎◌, ℕ, Err, true, List, [], ◌∷◌, ◌++◌, map, All, Any, Contains, IsTrue, Option, Some, None, option_and_then, refl, sym, ap, ◌∙◌, subst}
-use Rattle.std.specs.Prelude.{◌↔◌, IsErrOf, flat_map}
+use Rattle.std.proofs.Common.{◌≡◌, ◌⊎◌, ℕ, true, List, [], ◌∷◌, ◌++◌, map, All, Any, Contains, IsTrue, Option, Some, None, option_and_then, refl, sym, ap, ◌∙◌, subst}
+use Rattle.std.specs.Prelude.{◌↔◌, flat_map}
 use Rattle.std.proofs.lemmas.List.{map-append, map-id}
 use Rattle.std.proofs.lemmas.List.Elements.{All-contains}
 use Rattle.std.proofs.lemmas.Simd.{map-map}
@@ -11,12 +11,7 @@ use Rattle.lethe_base.specs.Matching.{answer_under}
 use Rattle.lethe_base.specs.Read.{Get, Scan, Found, Listed, answer, is_between}
 use Rattle.lethe_base.specs.declared.config.Fields.{Fields}
 use Rattle.lethe_base.specs.declared.entry.Entry.{Entry}
-use Rattle.lethe_base.specs.declared.name.Name.{Name}
 use Rattle.lethe_base.specs.declared.pending.Pending.{Pending}
-use Rattle.lethe_base.specs.declared.refused.Refused.{Refused}
-use Rattle.lethe_base.specs.declared.refused.Refused.TheVariants.{ReadFault, Damaged, NoMemory}
-use Rattle.lethe_disk.specs.declared.cursor.ReadRefused.{ReadRefused}
-use Rattle.lethe_disk.specs.declared.cursor.ReadRefused.TheVariants as disk
 use Rattle.lethe_disk.specs.declared.disk.Disk.{Ghosts}
 use Rattle.lethe_file.specs.Agreement.{FileAgrees}
 use Rattle.lethe_cover.proofs.Lists.{in_map}
@@ -42,7 +37,7 @@ use Rattle.lethe_read.specs.Found.{IsNewestBelow, first_found, frozen_entries}
 use Rattle.lethe_state.proofs.Leveled.{parts_from}
 use Rattle.lethe_state.specs.Remembered.{IsFrozenIn, Remembers}
 use Rattle.lethe_state.specs.declared.state.State.{State}
-use Rattle.lethe_engine.specs.Reads.{IsReadRefusal, listed, told_as}
+use Rattle.lethe_engine.specs.Reads.{listed}
 use Rattle.lethe_core.specs.StandsNow.{StandsNow}
 use Rattle.lethe_core.specs.View.{view_of}
 use Rattle.lethe_core.specs.declared.holding.Core.{Core}
@@ -138,23 +133,3 @@ module _ {D Page Port : Type 0} {kind : Ghosts D Page Port} (core : Core D Page 
     listed_between lo hi pairs given =
         let is = subst (λ o. IsScanned core.state o core.state.pending files lo hi pairs) older_is (subst (λ l. IsScanned core.state older l files lo hi pairs) erases_are given) in
         ap (λ st. answer st (Scan lo hi)) (sym (after_without h)) ∙ sym (scanned core.version stands.stored core.state stands.remembers (without_failed h) stands.stands lo hi pairs is.0 is.1 is.2)
-
--- Refusals
-
-pub damage_told : (why : ReadRefused) (name : Name) → told_as why ≡ Damaged name → why ≡ disk.Damaged name
-damage_told (disk.Damaged other) name e = let same : other ≡ name = cc in ap disk.Damaged same
-damage_told (disk.ReadFault before behind) name e = absurd (let clash : ReadFault before behind ≡ Damaged name = e in cc)
-damage_told disk.NoMemory name e = absurd (let clash : NoMemory ≡ Damaged name = e in cc)
-
-pub fault_told : (why : ReadRefused) (before behind : ℕ) → told_as why ≡ ReadFault before behind → why ≡ disk.ReadFault before behind
-fault_told (disk.ReadFault b a) before behind e = let first : b ≡ before = cc in let last : a ≡ behind = cc in (λ i. disk.ReadFault (first i) (last i))
-fault_told (disk.Damaged other) before behind e = absurd (let clash : Damaged other ≡ ReadFault before behind = e in cc)
-fault_told disk.NoMemory before behind e = absurd (let clash : NoMemory ≡ ReadFault before behind = e in cc)
-
-pub told_reads : (why : ReadRefused) → IsReadRefusal (told_as why)
-told_reads (disk.ReadFault before behind) = tt
-told_reads (disk.Damaged name) = tt
-told_reads disk.NoMemory = tt
-
-pub err_told : {T : Type 0} {why other : Refused} → IsErrOf {T = T} (Err why) other → why ≡ other
-err_told is = cc

@@ -12,7 +12,7 @@ use Rattle.lethe_state.specs.declared.state.State.{State}
 use Rattle.lethe_core.specs.Asked.{failure_of}
 use Rattle.lethe_core.specs.Reasons.{HasReason, IsShortOfRoom, IsUnreadable}
 use Rattle.lethe_core.specs.View.{View}
-use Rattle.lethe_engine.specs.Reads.{told_as}
+use Rattle.lethe_read.specs.Refusals.{told_as}
 use Rattle.lethe_engine.specs.Refusals.{HasReasonOfBegin, HasReasonOfChange, SeesRoom}
 
 -- the failure of a disk is told with these counts, which rose

@@ -8,5 +8,5 @@ use Rattle.lethe_core.specs.View.{Face}
 
 -- it was made, with the snapshot's limit, unless it is refused
 abbrev pub pinned_face : {D Page Port : Type 0} {kind : Ghosts D Page Port} → Face → Result (Snapshot D Page Port kind) Refused → Face
-pinned_face face (Ok snapshot) = with_pin face snapshot.limit
+pinned_face face (Ok snapshot) = with_pin face snapshot.pin.limit
 pinned_face face (Err why) = face

@@ -8,7 +8,8 @@ ghost use Rattle.lethe_base.specs.declared.config.Fields.{Fields};
 ghost use Rattle.lethe_base.specs.declared.refused.Refused.TheVariants as refused;
 ghost use Rattle.lethe_bound.specs.Limits.{IsLimit};
 ghost use Rattle.lethe_pins.specs.Held.{without};
-ghost use Rattle.lethe_snapshot.specs.Points.{IsOf};
+ghost use Rattle.lethe_snapshot.specs.Points.{IsOf, IsTaken};
+ghost use Rattle.lethe_snapshot.specs.Times.{IsLimitBy};
 ghost use Rattle.lethe_state.specs.Remembered.{Remembers};
 ghost use Rattle.lethe_stored.specs.Left.{without_failed};
 ghost use Rattle.lethe_stored.specs.Stored.{Stored, layout_of};
@@ -39,13 +40,17 @@ impl<D: Disk> Engine<D> {
         ensures held { D.tells → (s : Stored) → Holds (view_of self.old.core) s → Holds (view_of self.new.core) s }
 
         // It has the next number and shows the history without what failed; its pin names the pages of the store's files.
-        ensures number { IfOk result (λ snapshot. snapshot.number ≡ self.old.core.pins.made + 1) }
+        ensures number { IfOk result (λ snapshot. snapshot.pin.number ≡ self.old.core.pins.made + 1) }
         ensures point { IfOk result (λ snapshot. snapshot.point ≡ self.old.core.state.count) }
         ensures of { D.tells → (config : Fields) (opened : Opened) (h : History) → StandsSince config opened h (view_of self.old.core) → IfOk result (IsOf (without_failed h)) }
-        ensures limit { (s : Stored) → Remembers s self.old.core.state (view_of self.old.core).levels → IfOk result (λ snapshot. IsLimit s.manifest.config.threshold (layout_of s) snapshot.limit) }
+        ensures limit { (s : Stored) → Remembers s self.old.core.state (view_of self.old.core).levels → IfOk result (λ snapshot. IsLimit s.manifest.config.threshold (layout_of s) snapshot.pin.limit) }
         ensures near { D.tells → (config : Fields) (opened : Opened) (h : History) → StandsSince config opened h (view_of self.old.core)
-            → IfOk result (λ snapshot. (self.old.core.state.manifest.clock < snapshot.limit) × (snapshot.limit ≤ config.threshold + self.old.core.state.manifest.clock)) }
-        ensures pinned { IfOk result (λ snapshot. IsPinOf (view_of self.old.core) (view_of self.new.core) snapshot.number snapshot.limit) }
+            → IfOk result (λ snapshot. (self.old.core.state.manifest.clock < snapshot.pin.limit) × (snapshot.pin.limit ≤ config.threshold + self.old.core.state.manifest.clock)) }
+
+        // On any disk: it has what the store has in memory, and its files; its limit is taken from what is remembered and from the files' lines.
+        ensures taken { IfOk result (IsTaken self.old.core.state (view_of self.old.core).levels) }
+        ensures by { IfOk result (λ snapshot. IsLimitBy self.old.core.state (view_of self.old.core).levels snapshot.pin.limit) }
+        ensures pinned { IfOk result (λ snapshot. IsPinOf (view_of self.old.core) (view_of self.new.core) snapshot.pin.number snapshot.pin.limit) }
 
         // Nothing else changes.
         ensures same { self.new ≡ record self.old { core = record self.old.core { pins = self.new.core.pins } } }
@@ -61,9 +66,9 @@ impl<D: Disk> Engine<D> {
     /// device call. A snapshot goes back to the store that gave it: that of another store, or of an earlier opening, would let this store's pin of the same number go.
     pub fn release(&mut self, snapshot: Snapshot<D>)
         requires { IsSound D.tells (view_of self.old.core) }
-        ensures answers { Answers D.tells (Serves Work) None (without_pin (face_of (view_of self.old.core)) snapshot.number) (view_of self.old.core) (view_of self.new.core) }
+        ensures answers { Answers D.tells (Serves Work) None (without_pin (face_of (view_of self.old.core)) snapshot.pin.number) (view_of self.old.core) (view_of self.new.core) }
         ensures held { D.tells → (s : Stored) → Holds (view_of self.old.core) s → Holds (view_of self.new.core) s }
-        ensures same { self.new ≡ record self.old { core = record self.old.core { pins = record self.old.core.pins { pins = without snapshot.number self.old.core.pins.pins } } } }
+        ensures same { self.new ≡ record self.old { core = record self.old.core { pins = record self.old.core.pins { pins = without snapshot.pin.number self.old.core.pins.pins } } } }
     {
         self.core.release_now(snapshot);
     }

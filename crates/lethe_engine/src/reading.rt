@@ -14,8 +14,9 @@ ghost use Rattle.lethe_base.specs.declared.refused.Refused.TheVariants.{ReadFaul
 ghost use Rattle.lethe_version.specs.Probing.{bound};
 ghost use Rattle.lethe_read.specs.Between.{AreListedBetween};
 ghost use Rattle.lethe_read.specs.Found.{IsBacked, buffered_entry, frozen_entries};
+ghost use Rattle.lethe_read.specs.Refusals.{IsReadRefusal};
 ghost use Rattle.lethe_version.specs.Versions.{IsDamagedInAny, IsDamagedOf, IsVouchedBy, files_of, pages_between};
-ghost use Rattle.lethe_engine.specs.Reads.{IsReadRefusal, is_in_memory, listed, told_as};
+ghost use Rattle.lethe_engine.specs.Reads.{is_in_memory, listed};
 ghost use Rattle.lethe_core.specs.Running.{IsSound};
 ghost use Rattle.lethe_core.specs.StandsNow.{StandsNow};
 ghost use Rattle.lethe_core.specs.View.{face_of, view_of};
@@ -24,8 +25,8 @@ ghost use Rattle.lethe_engine.specs.Answers.{Answers};
 
 use crate::Engine;
 use lethe_base::{Key, Refused, Value};
-use lethe_disk::{Disk, ReadRefused};
-use lethe_read::{get, scan};
+use lethe_disk::Disk;
+use lethe_read::{get, scan, told_as};
 use std::alloc::Global;
 
 impl<D: Disk> Engine<D> {
@@ -135,16 +136,5 @@ impl<D: Disk> Engine<D> {
             Ok(pairs) => Ok(pairs),
             Err(why) => Err(told_as(why)),
         }
-    }
-}
-
-/// The same refusal, as the store tells it.
-fn told_as(why: ReadRefused) -> Refused
-    ensures { result ≡ told_as why }
-{
-    match why {
-        ReadRefused::ReadFault { before, after } => Refused::ReadFault { before, after },
-        ReadRefused::Damaged { name } => Refused::Damaged { name },
-        ReadRefused::NoMemory => Refused::NoMemory,
     }
 }

@@ -6,10 +6,10 @@ ghost use Rattle.lethe_base.specs.Limits.{max_place};
 ghost use Rattle.lethe_base.specs.declared.refused.Refused.TheVariants as refused;
 ghost use Rattle.lethe_pins.specs.Held.{Held, AreHeld, Ascend, IsFirst, first_limit_of, is_held, is_named, placed, without};
 
-use crate::Pin;
 use crate::linking::{node_at, relink, seek};
 use crate::node::Node;
 use crate::stop::Stop;
+use crate::{HeldPin, Pin};
 use lethe_base::{List, MAX_PLACE, Name, NoMemory, Refused};
 use slab::Slab;
 use std::alloc::Global;
@@ -47,12 +47,13 @@ impl Pins {
         }
     }
 
-    /// Makes a pin that keeps these names, and answers its number. Refused: `Exhausted` exactly where as many were made as there are
+    /// Makes a pin that keeps these names, and gives what lets it go again. Refused: `Exhausted` exactly where as many were made as there are
     /// numbers, else `NoMemory`. A refusal leaves all as before.
-    pub fn pin(&mut self, names: Vec<Name>, limit: u64) -> Result<u64, Refused>
+    pub fn pin(&mut self, names: Vec<Name>, limit: u64) -> Result<HeldPin, Refused>
         requires { Ascend names.items }
-        ensures made { IfOk result (λ number. (number ≡ self.old.made + 1)
-            × (self.new ≡ record { pins = placed (record { number = number; names = names.items; limit = limit }) self.old.pins; made = number })) }
+        ensures made { IfOk result (λ pin. (pin.number ≡ self.old.made + 1)
+            × (self.new ≡ record { pins = placed (record { number = pin.number; names = names.items; limit = pin.limit }) self.old.pins; made = pin.number })) }
+        ensures limit { IfOk result (λ pin. pin.limit ≡ limit) }
         ensures exhausted { IsErrOf result (refused.Exhausted max_place) ↔ self.old.made ≡ max_place }
         ensures cause { IfErr result (λ why. (why ≡ refused.Exhausted max_place) ⊎ (why ≡ refused.NoMemory)) }
         ensures unchanged { OnErr result (self.new ≡ self.old) }
@@ -73,7 +74,7 @@ impl Pins {
         };
         self.first = relink(&mut self.nodes, self.first, behind, Some(key));
         self.made = number;
-        Ok(number)
+        Ok(HeldPin { number, limit })
     }
 
     /// The number that the next pin gets, and None where as many were made as there are numbers.
@@ -87,14 +88,15 @@ impl Pins {
         Some(self.made + 1)
     }
 
-    /// Lets the pin of that number go. False exactly where it isn't held, and then nothing changes. It takes no memory.
-    pub fn unpin(&mut self, pin: u64) -> bool
-        ensures found { result ≡ is_held pin self.old.pins }
-        ensures others { self.new ≡ record self.old { pins = without pin self.old.pins } }
+    /// Lets a pin go. False exactly where its number isn't held, as that of a pin which other pins gave may not be, and then nothing changes. It takes no memory.
+    pub fn unpin(&mut self, pin: HeldPin) -> bool
+        ensures found { result ≡ is_held pin.number self.old.pins }
+        ensures others { self.new ≡ record self.old { pins = without pin.number self.old.pins } }
         ensures none { OnFalse result (self.new ≡ self.old) }
         ensures held { AreHeld self.new }
     {
-        let (behind, from) = seek(&self.nodes, self.first, Stop::Number(pin));
+        let HeldPin { number, limit: _ } = pin;
+        let (behind, from) = seek(&self.nodes, self.first, Stop::Number(number));
         let Some(key) = from else {
             return false;
         };

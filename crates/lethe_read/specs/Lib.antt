@@ -1,3 +1,4 @@
 pub mod Between
 pub mod Found
 pub mod Parts
+pub mod Refusals

@@ -4,6 +4,8 @@
 mod found;
 mod part;
 mod scanning;
+mod telling;
 
 pub use found::get;
 pub use scanning::scan;
+pub use telling::told_as;

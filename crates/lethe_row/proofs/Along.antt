@@ -176,6 +176,7 @@ idle_row Tells view asked left sound same end = record {
   written = λ told none s holds. (s, refl, holds);
   calls = λ told fine. omega arith;
   numbers = λ told. omega arith;
+  drawn = omega arith;
   faults = omega arith;
   pinned = λ told name named. refl;
 }
@@ -350,6 +351,7 @@ module _ (Tells : Type 0) (old : View) (running : old.state.stopped ≡ None) (a
       written = λ told none. written_on new counts.holds told;
       calls = λ told fine. let was = held.calls (well fine) told in let so = calls told in omega (arith, was, so, calls_are);
       numbers = λ told. let was = held.numbers told in let so = numbers told in omega (arith, was, so);
+      drawn = let was = held.grown.drawn in let more = counts.state.drawn in omega (arith, was, more);
       faults = let was = held.faults in omega (arith, was, faults);
       pinned = pinned_on new.disk kept;
     }
@@ -358,7 +360,7 @@ module _ (Tells : Type 0) (old : View) (running : old.state.stopped ≡ None) (a
     module _ (before : ℕ) (before_is : before ≡ old.faults) (new : View) (why : Refused) (left' : List Asked) (behind_it : IsLeftBehind left left') (done : ℕ) (many : length made ≡ done) (sound : IsSound Tells new)
         (count : (call : Call) → new.state.count ≡ counted (Makes call) (Some why) mid.state.count) (stopped : new.state.stopped ≡ stopped_by (Some why) mid.state.stopped)
         (stands : Tells → (config : Fields) (h : History) (caller : ℕ) (call : Call) → is_work call ≡ false → (stands : StandsNow config h (at_rest mid held.at)) → IsFor (with_done h caller call) (appended stands.stored waiting.record)
-        → StandsNow config (behind h caller (Makes call) (Some why)) new) (runs : Runs new.disk) (numbers : Tells → new.state.next + mid.disk.moment ≤ mid.state.next + new.disk.moment) (faults : mid.faults ≤ new.faults)
+        → StandsNow config (behind h caller (Makes call) (Some why)) new) (runs : Runs new.disk) (numbers : Tells → new.state.next + mid.disk.moment ≤ mid.state.next + new.disk.moment) (drawn : mid.state.next ≤ new.state.next) (faults : mid.faults ≤ new.faults)
         (kept : Tells → AreKept mid.pins.pins mid.disk.directory new.disk.directory) where
       by_failure : (why : Refused) → HasReason ⊥ mid.state before new.faults why → (why ≡ NoMemory → ⊥) → ((call : Call) → new.state.count ≡ counted (Makes call) (Some why) mid.state.count)
           → new.state.stopped ≡ stopped_by (Some why) mid.state.stopped
@@ -392,6 +394,7 @@ module _ (Tells : Type 0) (old : View) (running : old.state.stopped ≡ None) (a
         written = λ told none. absurd cc;
         calls = λ told fine. absurd cc;
         numbers = λ told. let was = held.numbers told in let so = numbers told in omega (arith, was, so);
+        drawn = let was = held.grown.drawn in omega (arith, was, drawn);
         faults = let was = held.faults in omega (arith, was, faults);
         pinned = pinned_on new.disk kept;
       }
@@ -410,7 +413,7 @@ module _ (Tells : Type 0) (old : View) (running : old.state.stopped ≡ None) (a
 
     -- its record was to count, and no other waits
     module _ (before : ℕ) (before_is : before ≡ old.faults) (new : View) (left' : List Asked) (behind_it : IsLeftBehind left left') (done : ℕ) (many : length made ≡ done) (sound : IsSound Tells new)
-        (numbers : Tells → new.state.next + mid.disk.moment ≤ mid.state.next + new.disk.moment) (faults : mid.faults ≤ new.faults) (kept : Tells → AreKept mid.pins.pins mid.disk.directory new.disk.directory) (runs : Runs new.disk)
+        (numbers : Tells → new.state.next + mid.disk.moment ≤ mid.state.next + new.disk.moment) (drawn : mid.state.next ≤ new.state.next) (faults : mid.faults ≤ new.faults) (kept : Tells → AreKept mid.pins.pins mid.disk.directory new.disk.directory) (runs : Runs new.disk)
         (refused : Option Refused) (well : refused ≡ None → Fine) (going : stopped_by refused old.state.stopped ≡ None)
         (is_ended : IsCountedIn Tells waiting (at_rest mid held.at) new → IsEnded refused left left' None old new) where
       pub last_row : (last : Result ℕ Refused) → OnOk last (IsCountedIn Tells waiting (at_rest mid held.at) new) → ((call : Call) → new.state.count ≡ counted (Makes call) (result_err last) mid.state.count)
@@ -422,12 +425,12 @@ module _ (Tells : Type 0) (old : View) (running : old.state.stopped ≡ None) (a
           subst (λ (row : Row). IsRow Tells asked left' row.done row.refused old new) (sym is) (counted_row done refused well left' new many going (is_ended counts) sound counts runs calls numbers faults kept)
       last_row (Err why) counts count stopped reason memory stands calls row is =
           subst (λ (row : Row). IsRow Tells asked left' row.done row.refused old new) (sym is)
-          (failed_row before before_is new why left' behind_it done many sound count stopped stands runs numbers faults kept reason (λ is. memory (ap (λ why. Err why) is)))
+          (failed_row before before_is new why left' behind_it done many sound count stopped stands runs numbers drawn faults kept reason (λ is. memory (ap (λ why. Err why) is)))
 
   -- The first record wasn't written
   module _ (next : Asked) (left : List Asked) (are : asked ≡ next ∷ left) (new : View) (sound : IsSound Tells new)
       (moments : Tells → (config : Fields) (h : History) → StandsNow config h old → GoesFrom old.state.next (λ c. IsKept config c h) old.disk new.disk) (numbers : Tells → new.state.next + old.disk.moment ≤ old.state.next + new.disk.moment)
-      (faults : old.faults ≤ new.faults) (kept : Tells → AreKept old.pins.pins old.disk.directory new.disk.directory) (fits : old.state.count < max_place) where
+      (drawn : old.state.next ≤ new.state.next) (faults : old.faults ≤ new.faults) (kept : Tells → AreKept old.pins.pins old.disk.directory new.disk.directory) (fits : old.state.count < max_place) where
     -- the disk failed in the first record, or there was no memory for it
     pub unheld_row : (why : Refused) → HasReason ⊥ old.state old.faults new.faults why → ((call : Call) → new.state.count ≡ counted (Makes call) (Some why) old.state.count)
         → new.state.stopped ≡ stopped_by (Some why) old.state.stopped
@@ -459,6 +462,7 @@ module _ (Tells : Type 0) (old : View) (running : old.state.stopped ≡ None) (a
       written = λ told none. absurd cc;
       calls = λ told fine. absurd cc;
       numbers = numbers;
+      drawn = drawn;
       faults = faults;
       pinned = kept;
     }
@@ -480,6 +484,7 @@ module _ (Tells : Type 0) (old : View) (running : old.state.stopped ≡ None) (a
           (s, refl, subst (Holds new) (sym (one_held old new s is.0 ((untouched refl).1 told) holds is.1)) is.1);
       calls = λ told fine. absurd cc;
       numbers = numbers;
+      drawn = drawn;
       faults = faults;
       pinned = kept;
     }

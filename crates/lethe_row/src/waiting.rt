@@ -72,6 +72,7 @@ pub fn hold<D: Disk>(
     ensures pins { core.new.pins ≡ core.old.pins }
     ensures pinned { D.tells → AreKept (view_of core.old).pins.pins (D.seen core.old.disk).directory (D.seen core.new.disk).directory }
     ensures numbers { D.tells → core.new.state.next + (D.seen core.old.disk).moment ≤ core.old.state.next + (D.seen core.new.disk).moment }
+    ensures drawn { core.old.state.next ≤ core.new.state.next }
     ensures faults { D.faults core.old.disk ≤ D.faults core.new.disk }
 {
     let Ok(Prepared { body, end, pending }) = core.state.prepare(alloc, &next) else {
@@ -139,6 +140,7 @@ pub fn pass_on<D: Disk>(
     ensures pins { core.new.pins ≡ core.old.pins }
     ensures pinned { D.tells → AreKept (view_of core.old).pins.pins (D.seen core.old.disk).directory (D.seen core.new.disk).directory }
     ensures numbers { D.tells → core.new.state.next + (D.seen core.old.disk).moment ≤ core.old.state.next + (D.seen core.new.disk).moment }
+    ensures drawn { core.old.state.next ≤ core.new.state.next }
     ensures faults { D.faults core.old.disk ≤ D.faults core.new.disk }
 {
     let Ok(Prepared { body, end, pending }) = core.state.prepare_behind(alloc, waiting, &next)
@@ -198,6 +200,7 @@ pub fn count_last<D: Disk>(
     ensures pins { core.new.pins ≡ core.old.pins }
     ensures pinned { D.tells → AreKept (view_of core.old).pins.pins (D.seen core.old.disk).directory (D.seen core.new.disk).directory }
     ensures numbers { D.tells → core.new.state.next + (D.seen core.old.disk).moment ≤ core.old.state.next + (D.seen core.new.disk).moment }
+    ensures drawn { core.old.state.next ≤ core.new.state.next }
     ensures faults { D.faults core.old.disk ≤ D.faults core.new.disk }
 {
     let segment = active_segment(core);

@@ -10,10 +10,8 @@ use Rattle.lethe_base.specs.declared.refused.Refused.TheVariants as refused
 use Rattle.lethe_core.specs.Asked.{Makes}
 use Rattle.lethe_core.specs.Reasons.{HasReason, IsUnreadable}
 use Rattle.lethe_core.specs.View.{Face, View, face_of}
-use Rattle.lethe_disk.specs.declared.cursor.ReadRefused.{ReadRefused}
-use Rattle.lethe_disk.specs.declared.cursor.ReadRefused.TheVariants as read
 use Rattle.lethe_engine.specs.Answers as engine
-use Rattle.lethe_engine.specs.Reads.{IsReadRefusal}
+use Rattle.lethe_read.specs.Refusals.{IsReadRefusal}
 use Rattle.lethe_engine.specs.Refusals.{HasReasonOfChange}
 use Rattle.lethe_script.specs.declared.order.Act.{Act}
 use Rattle.lethe_script.specs.declared.order.Order.{Order}
@@ -22,7 +20,7 @@ use Rattle.lethe_run.specs.declared.reply.Line.TheVariants as line
 use Rattle.lethe_run.specs.declared.reply.Reply.{Reply}
 use Rattle.lethe_run.specs.declared.reply.Reply.TheVariants.{Done, Ticked, Got, Scanned, Counted, Pinned, PinGot, PinScanned, Unpinned, Fault, Stopped, Exhausted, Backwards, Barred, ReadFault, Damaged}
 use Rattle.lethe_run.specs.Anywhere.{AreTold, AreToldThrough, IsTold, MayChange, Standing, standing_of}
-use Rattle.lethe_run.specs.Replies.{refusal_of, reply_of, slot_unread_of, unread_of}
+use Rattle.lethe_run.specs.Replies.{refusal_of, reply_of, unread_of}
 use Rattle.lethe_run.specs.Slots.{Slots}
 use Rattle.lethe_run.specs.Transcript.{IsRead, call_of, change_of}
 use Rattle.lethe_run.proofs.Steps.{asks_change}
@@ -123,11 +121,18 @@ unread_tells Ports act view slots is refused.NothingDue reason fails = absurd re
 unread_tells Ports act view slots is (refused.Cancelled begun other) reason fails = absurd reason
 
 -- and one of what a slot holds
-pub slot_unread_tells : (Ports : Type 0) (from upto : ℕ) (act : Act) (s : Standing) → IsRead act → (why : ReadRefused) → ((before after : ℕ) → why ≡ read.ReadFault before after → Ports)
-    → IfOk (slot_unread_of why) (λ reply. IsTold Ports from upto act s reply s)
-slot_unread_tells Ports from upto act s is (read.ReadFault before after) fails = ((inl is, fails before after refl, refl), refl)
-slot_unread_tells Ports from upto act s is (read.Damaged name) fails = ((inl is, refl), refl)
-slot_unread_tells Ports from upto act s is read.NoMemory fails = tt
+pub slot_unread_tells : (Ports : Type 0) (from upto : ℕ) (act : Act) (s : Standing) → IsRead act → (why : Refused) → IsReadRefusal why → ((before after : ℕ) → why ≡ refused.ReadFault before after → Ports)
+    → IfOk (unread_of why) (λ reply. IsTold Ports from upto act s reply s)
+slot_unread_tells Ports from upto act s is (refused.ReadFault before after) reason fails = ((inl is, fails before after refl, refl), refl)
+slot_unread_tells Ports from upto act s is (refused.Damaged name) reason fails = ((inl is, refl), refl)
+slot_unread_tells Ports from upto act s is refused.NoMemory reason fails = tt
+slot_unread_tells Ports from upto act s is (refused.Fault place before after) reason fails = absurd reason
+slot_unread_tells Ports from upto act s is (refused.Stopped at) reason fails = absurd reason
+slot_unread_tells Ports from upto act s is (refused.Exhausted last) reason fails = absurd reason
+slot_unread_tells Ports from upto act s is (refused.Backwards clock) reason fails = absurd reason
+slot_unread_tells Ports from upto act s is (refused.Pinned pin limit) reason fails = absurd reason
+slot_unread_tells Ports from upto act s is refused.NothingDue reason fails = absurd reason
+slot_unread_tells Ports from upto act s is (refused.Cancelled begun now) reason fails = absurd reason
 
 -- Lines, and what stays of them when the counts of faults lie further apart
 

@@ -68,7 +68,7 @@ module _ {D Page Port : Type 0} {kind : Ghosts D Page Port} (held : List (Option
       pub held_more : held_in left ≡ slice_set (held_in held) slot true
       held_more = ap held_in set ∙ map-set is_some held slot (Some snapshot)
 
-      module _ (pin : IsPinOf old new snapshot.number snapshot.limit) where
+      module _ (pin : IsPinOf old new snapshot.pin.number snapshot.pin.limit) where
         pub slots_more : slots_of new left ≡ with_pin slot (pin_of snapshot) (slots_of old held)
         slots_more =
             let filled = ap (map (option_map pin_of)) set ∙ map-set (option_map pin_of) held slot (Some snapshot) in
@@ -80,13 +80,13 @@ module _ {D Page Port : Type 0} {kind : Ghosts D Page Port} (held : List (Option
           made = refl;
           ten = ap (λ (slots : Slots). length slots.held) slots_more ∙ length-set (slots_of old held).held slot (Some (pin_of snapshot)) ∙ holds.ten;
           those = subst (λ slots. AreThose new.pins.pins (pins_of slots)) (sym slots_more) (subst (λ (pins : Held). AreThose pins.pins (pins_of (with_pin slot (pin_of snapshot) (slots_of old held)))) (sym pin.is)
-              (those_pinned (slots_of old held) slot in_ten old.pins.pins (record { number = snapshot.number; names = pin.names; limit = snapshot.limit }) snapshot.point holds.those (pin_at old slot None free)));
+              (those_pinned (slots_of old held) slot in_ten old.pins.pins (record { number = snapshot.pin.number; names = pin.names; limit = snapshot.pin.limit }) snapshot.point holds.those (pin_at old slot None free)));
         }
 
     -- A pin is let go
 
     module _ (snapshot : Snapshot D Page Port kind) (set : left ≡ slice_set held slot None) (was : get_or held slot None ≡ Some snapshot) (pins : AreHeld old.pins)
-        (same : new ≡ record old { pins = record old.pins { pins = without snapshot.number old.pins.pins } }) where
+        (same : new ≡ record old { pins = record old.pins { pins = without snapshot.pin.number old.pins.pins } }) where
       pub held_fewer : held_in left ≡ slice_set (held_in held) slot false
       held_fewer = ap held_in set ∙ map-set is_some held slot None
 

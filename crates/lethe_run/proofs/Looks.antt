@@ -9,7 +9,7 @@ use Rattle.lethe_base.specs.declared.refused.Refused.{Refused}
 use Rattle.lethe_base.specs.declared.refused.Refused.TheVariants as refused
 use Rattle.lethe_base.specs.declared.memory.NoMemory.{NoMemory}
 use Rattle.lethe_core.specs.View.{View}
-use Rattle.lethe_engine.specs.Reads.{IsReadRefusal}
+use Rattle.lethe_read.specs.Refusals.{IsReadRefusal}
 use Rattle.lethe_engine.specs.Stats.{IsStatOf}
 use Rattle.lethe_engine.specs.declared.telling.Stat.{Stat}
 use Rattle.lethe_job.specs.Shapes.{due_shape}

@@ -7,9 +7,9 @@ use Rattle.lethe_base.specs.Read.{Answer, Read, answer}
 use Rattle.lethe_base.specs.declared.call.Call.TheVariants.{Work}
 use Rattle.lethe_base.specs.declared.config.Fields.{Fields}
 use Rattle.lethe_base.specs.declared.refused.Refused.{Refused}
+use Rattle.lethe_base.specs.declared.refused.Refused.TheVariants as refused
 use Rattle.lethe_base.specs.declared.name.Name.{Name}
-use Rattle.lethe_disk.specs.declared.cursor.ReadRefused.{ReadRefused}
-use Rattle.lethe_disk.specs.declared.cursor.ReadRefused.TheVariants as read
+use Rattle.lethe_read.specs.Refusals.{IsReadRefusal}
 use Rattle.lethe_disk.specs.declared.disk.Disk.{Ghosts}
 use Rattle.lethe_manifest.specs.declared.manifest.Manifest.{Manifest}
 use Rattle.lethe_snapshot.specs.declared.snapshot.Snapshot.{Snapshot}
@@ -27,7 +27,7 @@ use Rattle.lethe_run.specs.declared.reply.Reply.TheVariants as reply
 use Rattle.lethe_run.specs.Anywhere.{IsTold, standing_of}
 use Rattle.lethe_run.specs.Carried.{certificate_in}
 use Rattle.lethe_run.specs.Holding.{IsShown}
-use Rattle.lethe_run.specs.Replies.{slot_unread_of}
+use Rattle.lethe_run.specs.Replies.{unread_of}
 use Rattle.lethe_run.specs.Serving.{Advances, IsAnswered, IsBorneOn, IsLookedUp, IsOn, Point, opened_in}
 use Rattle.lethe_run.specs.Slots.{Pin, Slots, pin_in, with_pin, without_pin}
 use Rattle.lethe_run.specs.Transcript.{Answers, Course, Follows, IsAnswerAt, IsRead, Start, course}
@@ -81,11 +81,18 @@ slot_answer h snapshot read given point at shown is =
       is = sym is ∙ ap (λ s. answer s read) (after_without (take snapshot.point h)) ∙ ap (λ n. answer (after (take n h)) read) (sym at);
     }
 
-pub slot_unread : (Ports : Type 0) (begin : Start) (faults moment : ℕ) (h : History) (caller : ℕ) (act : Act) → IsRead act → (why : ReadRefused) → ((before behind : ℕ) → why ≡ read.ReadFault before behind → Ports)
-    → ((name : Name) → why ≡ read.Damaged name → ⊥) → IfOk (slot_unread_of why) (IsLookedUp Ports begin faults moment h caller act)
-slot_unread Ports begin faults moment h caller act is (read.ReadFault before behind) fails sound = ((inl is, fails before behind refl), refl, refl)
-slot_unread Ports begin faults moment h caller act is (read.Damaged name) fails sound = absurd (sound name refl)
-slot_unread Ports begin faults moment h caller act is read.NoMemory fails sound = tt
+pub slot_unread : (Ports : Type 0) (begin : Start) (faults moment : ℕ) (h : History) (caller : ℕ) (act : Act) → IsRead act → (why : Refused) → IsReadRefusal why → ((before behind : ℕ) → why ≡ refused.ReadFault before behind → Ports)
+    → ((name : Name) → why ≡ refused.Damaged name → ⊥) → IfOk (unread_of why) (IsLookedUp Ports begin faults moment h caller act)
+slot_unread Ports begin faults moment h caller act is (refused.ReadFault before behind) reason fails sound = ((inl is, fails before behind refl), refl, refl)
+slot_unread Ports begin faults moment h caller act is (refused.Damaged name) reason fails sound = absurd (sound name refl)
+slot_unread Ports begin faults moment h caller act is refused.NoMemory reason fails sound = tt
+slot_unread Ports begin faults moment h caller act is (refused.Fault place before behind) reason fails sound = absurd reason
+slot_unread Ports begin faults moment h caller act is (refused.Stopped at) reason fails sound = absurd reason
+slot_unread Ports begin faults moment h caller act is (refused.Exhausted last) reason fails sound = absurd reason
+slot_unread Ports begin faults moment h caller act is (refused.Backwards clock) reason fails sound = absurd reason
+slot_unread Ports begin faults moment h caller act is (refused.Pinned pin limit) reason fails sound = absurd reason
+slot_unread Ports begin faults moment h caller act is refused.NothingDue reason fails sound = absurd reason
+slot_unread Ports begin faults moment h caller act is (refused.Cancelled begun now) reason fails sound = absurd reason
 
 -- On any disk
 

@@ -11,7 +11,7 @@ use Rattle.lethe_run.specs.Slots.{Pin, Slots, pins_of}
 
 -- the pin of a snapshot
 abbrev pub pin_of : {D Page Port : Type 0} {kind : Ghosts D Page Port} → Snapshot D Page Port kind → Pin
-pin_of snapshot = record { number = snapshot.number; point = snapshot.point; limit = snapshot.limit }
+pin_of snapshot = record { number = snapshot.pin.number; point = snapshot.point; limit = snapshot.pin.limit }
 
 -- the slots that hold these snapshots, over a store
 abbrev pub slots_of : {D Page Port : Type 0} {kind : Ghosts D Page Port} → View → List (Option (Snapshot D Page Port kind)) → Slots

@@ -3,8 +3,6 @@ use Rattle.std.specs.Prelude.{ℕ, Result, Ok, Err}
 use Rattle.lethe_base.specs.declared.memory.NoMemory.{NoMemory}
 use Rattle.lethe_base.specs.declared.refused.Refused.{Refused}
 use Rattle.lethe_base.specs.declared.refused.Refused.TheVariants as refused
-use Rattle.lethe_disk.specs.declared.cursor.ReadRefused.{ReadRefused}
-use Rattle.lethe_disk.specs.declared.cursor.ReadRefused.TheVariants as read
 use Rattle.lethe_engine.specs.declared.ticking.Ticked.{Ticked}
 use Rattle.lethe_run.specs.declared.reply.Reply.{Reply}
 use Rattle.lethe_run.specs.declared.reply.Reply.TheVariants.{Done, Fault, Stopped, Exhausted, Backwards, Barred, ReadFault, Damaged}
@@ -82,9 +80,3 @@ unread_of (refused.Backwards clock) = Err (record {})
 unread_of (refused.Pinned pin limit) = Err (record {})
 unread_of refused.NothingDue = Err (record {})
 unread_of (refused.Cancelled begun now) = Err (record {})
-
--- and of a read of what a slot holds
-abbrev pub slot_unread_of : ReadRefused → Result Reply NoMemory
-slot_unread_of (read.ReadFault before after) = Ok ReadFault
-slot_unread_of (read.Damaged name) = Ok (Damaged name.no)
-slot_unread_of read.NoMemory = Err (record {})

@@ -2,7 +2,7 @@
 ghost use Rattle.std.specs.Prelude.{◌≡◌, ◌<◌, ◌≤◌, ◌+◌, ℕ, IfErr, IsSome, MatchResult, Ok, OnOk, Some};
 ghost use Rattle.lethe_base.specs.History.{History};
 ghost use Rattle.lethe_base.specs.Limits.{max_place};
-ghost use Rattle.lethe_engine.specs.Reads.{IsReadRefusal};
+ghost use Rattle.lethe_read.specs.Refusals.{IsReadRefusal};
 ghost use Rattle.lethe_core.specs.Running.{IsSound};
 ghost use Rattle.lethe_core.specs.View.{view_of};
 ghost use Rattle.lethe_script.specs.Slots.{held_behind};
@@ -143,7 +143,7 @@ fn unmade(why: Refused) -> Result<Reply, NoMemory>
 }
 
 /// The reply to a read that was refused.
-fn unread(why: Refused) -> Result<Reply, NoMemory>
+pub(crate) fn unread(why: Refused) -> Result<Reply, NoMemory>
     requires { IsReadRefusal why }
     ensures { result ≡ unread_of why }
 {

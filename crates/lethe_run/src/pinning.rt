@@ -9,15 +9,15 @@ ghost use Rattle.lethe_script.specs.declared.order.Act.TheVariants as acts;
 ghost use Rattle.lethe_run.specs.Anywhere.{IsTold, Standing, standing_of};
 ghost use Rattle.lethe_run.specs.Holding.{AreShown, HoldsPins, IsShown, held_in, pin_of, slots_of};
 ghost use Rattle.lethe_run.specs.declared.reply.Reply.TheVariants as reply;
-ghost use Rattle.lethe_run.specs.Replies.{slot_unread_of};
 ghost use Rattle.lethe_run.specs.Serving.{Advances, IsAnswered, IsLookedUp, IsOn, Point};
 ghost use Rattle.lethe_run.specs.Slots.{pin_in};
 ghost use Rattle.lethe_run.specs.Transcript.{Start};
 
+use crate::answer::unread;
 use crate::reply::Reply;
 use crate::slots::Slots;
 use lethe_base::{Key, List, NoMemory, Refused};
-use lethe_disk::{Disk, ReadRefused};
+use lethe_disk::Disk;
 use lethe_engine::Engine;
 use lethe_script::Slot;
 use lethe_snapshot::Snapshot;
@@ -114,17 +114,6 @@ pub(crate) fn pin_scan<D: Disk>(
             pairs: List::of(pairs),
         }),
         Err(why) => unread(why),
-    }
-}
-
-/// The reply to a read of what a slot holds that was refused.
-fn unread(why: ReadRefused) -> Result<Reply, NoMemory>
-    ensures { result ≡ slot_unread_of why }
-{
-    match why {
-        ReadRefused::ReadFault { .. } => Ok(Reply::ReadFault),
-        ReadRefused::Damaged { name } => Ok(Reply::Damaged { no: name.no }),
-        ReadRefused::NoMemory => Err(NoMemory),
     }
 }
 

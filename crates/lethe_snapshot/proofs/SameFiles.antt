@@ -10,6 +10,7 @@ use Rattle.lethe_stored.proofs.Lists.{all_from}
 use Rattle.lethe_version.specs.Order.{is_kept}
 use Rattle.lethe_advance.specs.Shown.{AreLevelsWith, parts_without}
 use Rattle.lethe_advance.proofs.Lists.{filter_all}
+use Rattle.lethe_snapshot.specs.Points.{AreSameFiles}
 
 -- what follows of three facts of the value of a result
 pub ok_all : {T E : Type 0} {P Q S : T → Type 0} (result : Result T E) (R : T → Type 0) → IfOk result P → IfOk result Q → IfOk result S → ((x : T) → P x → Q x → S x → R x) → IfOk result R
@@ -21,12 +22,19 @@ all_stay : (files : List Parts) → parts_without [] files ≡ files
 all_stay files = filter_all (λ (file : Parts). is_kept [] file.header) files (all_from (λ (file : Parts). is_kept [] file.header ≡ true) files (λ file there. refl))
 
 -- levels that nothing left and nothing came into have the same files
+pub unchanged_files : (old new : List (List Parts)) → AreLevelsWith [] [] old new → AreSameFiles old new
+unchanged_files old new made = record {
+  count = made.count;
+  each = λ level inside.
+      let stay = append-nil (parts_without [] (get_or old level [])) ∙ all_stay (get_or old level []) in
+      subst (λ l. IsPermutation l (get_or new level [])) stay (made.each level inside);
+}
+
 pub same_files : (s : Stored) (old new : List (List Parts)) → AreLevelsWith [] [] old new → HasFiles s old → HasFiles s new
 same_files s old new made has = record {
   count = made.count ∙ has.count;
   each = λ level lt.
       let count = made.count in
       let inside : level < length old = omega (arith, count, lt) in
-      let stay = append-nil (parts_without [] (get_or old level [])) ∙ all_stay (get_or old level []) in
-      IsPermutation-trans _ _ _ (has.each level inside) (subst (λ l. IsPermutation l (get_or new level [])) stay (made.each level inside));
+      IsPermutation-trans _ _ _ (has.each level inside) ((unchanged_files old new made).each level inside);
 }

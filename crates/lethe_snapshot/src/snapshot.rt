@@ -1,34 +1,30 @@
 //! What a store held at a point.
-ghost use Rattle.std.specs.Prelude.{◌≡◌, ◌<◌, ◌≤◌, ◌+◌, true, false, sum_by, Option, IfOk, IfSome, OnOk, IsErrOf, if◌then◌else◌};
+ghost use Rattle.std.specs.Prelude.{◌≡◌, ◌<◌, ◌≤◌, ◌+◌, ℕ, true, false, sum_by, IfErr, IfOk, IfSome, OnOk, IsErrOf, if◌then◌else◌};
 ghost use Rattle.std.specs.Ordering.{is_lt};
-ghost use Rattle.std.specs.Option.{option_copied};
+ghost use Rattle.lethe_base.specs.Counts.{Rose};
 ghost use Rattle.lethe_base.specs.Keys.{key_cmp};
 ghost use Rattle.lethe_base.specs.History.{History, after};
 ghost use Rattle.lethe_base.specs.Matching.{answer_under};
 ghost use Rattle.lethe_base.specs.Read.{Get, Scan, Found, Listed, answer};
 ghost use Rattle.lethe_base.specs.declared.name.Name.{Name};
-ghost use Rattle.lethe_disk.specs.Reads.{HasReadCause, IsFault};
-ghost use Rattle.lethe_disk.specs.declared.cursor.ReadRefused.TheVariants.{Damaged};
-ghost use Rattle.lethe_advance.specs.Shown.{parts_by_level};
+ghost use Rattle.lethe_base.specs.declared.refused.Refused.TheVariants.{Damaged, ReadFault};
 ghost use Rattle.lethe_read.specs.Between.{AreListedBetween, by_keys};
 ghost use Rattle.lethe_read.specs.Found.{IsBacked, buffered_entry, frozen_entries, is_buffered};
-ghost use Rattle.lethe_state.specs.Remembered.{IsFrozenIn, Remembers};
-ghost use Rattle.lethe_stored.specs.Kept.{IsFor};
-ghost use Rattle.lethe_stored.specs.Stored.{Segment, Stored};
+ghost use Rattle.lethe_read.specs.Refusals.{IsReadRefusal};
 ghost use Rattle.lethe_version.specs.Probing.{bound};
 ghost use Rattle.lethe_version.specs.Versions.{IsDamagedInAny, IsDamagedOf, IsVouchedBy, files_of, pages_between};
-ghost use Rattle.lethe_snapshot.specs.Points.{IsOf};
+ghost use Rattle.lethe_snapshot.specs.Points.{IsOf, snapshot_of};
 
-use crate::sharing::share;
-use lethe_base::{Key, List, NoMemory, Pending, Value};
-use lethe_disk::{Disk, ReadRefused};
-use lethe_mem::{Buffer, VecBuffer};
-use lethe_read::{get, scan};
-use lethe_state::State;
+use crate::Contents;
+use lethe_base::{Key, List, Pending, Refused, Value};
+use lethe_disk::Disk;
+use lethe_mem::VecBuffer;
+use lethe_pins::HeldPin;
+use lethe_read::{get, scan, told_as};
 use lethe_version::Version;
 use std::alloc::Global;
 
-/// What a store held at a point: its files, which are shared, and copies of its buffers and pending erases. It never changes.
+/// What a store held at a point: its files, which are shared, and copies of its buffers and pending erases, with the pin for which its pages stay. It never changes.
 /// It can't be dropped: `release` takes it apart.
 pub struct Snapshot<D: Disk> {
     active: VecBuffer,
@@ -36,33 +32,29 @@ pub struct Snapshot<D: Disk> {
     version: Version<D>,
     pending: List<Pending>,
     point: u64,
-    number: u64,
-    limit: u64,
+    pin: HeldPin,
 }
 
 impl<D: Disk> Snapshot<D> {
-    /// What the store holds now. It makes no device call.
-    pub fn of(
-        alloc: Global,
-        state: &State,
-        version: &Version<D>,
-        number: u64,
-        limit: u64,
-    ) -> Result<Snapshot<D>, NoMemory>
-        ensures of { (s : Stored) (h : History) → Remembers s state.now (parts_by_level version.now) → IsFor h s → IfOk result (IsOf h) }
-        ensures point { IfOk result (λ snapshot. snapshot.point ≡ state.now.count) }
-        ensures number { IfOk result (λ snapshot. snapshot.number ≡ number) }
-        ensures limit { IfOk result (λ snapshot. snapshot.limit ≡ limit) }
+    /// These contents, which the pin keeps.
+    pub fn of(contents: Contents<D>, pin: HeldPin) -> Snapshot<D>
+        ensures { result ≡ snapshot_of contents pin }
     {
-        Ok(Snapshot {
-            active: state.active().copy()?,
-            frozen: copy_of(state.frozen())?,
-            version: share(alloc, version)?,
-            pending: List::of(state.pending().to_vec(alloc)?),
-            point: state.count(),
-            number,
-            limit,
-        })
+        let Contents {
+            active,
+            frozen,
+            version,
+            pending,
+            point,
+        } = contents;
+        Snapshot {
+            active,
+            frozen,
+            version,
+            pending,
+            point,
+            pin,
+        }
     }
 
     /// What the key had at the point, whatever was called since.
@@ -75,7 +67,7 @@ impl<D: Disk> Snapshot<D> {
         alloc: Global,
         port: &mut D::Port,
         key: &Key,
-    ) -> Result<Option<(u64, Value)>, ReadRefused>
+    ) -> Result<Option<(u64, Value)>, Refused>
         ensures answer { D.tells → (h : History) → IsOf h self.now → IfOk result (λ held. answer (after h) (Get key.now) ≡ Found held) }
 
         // Where a page is told as damaged, a fetch was made in this call, since the key may be there, and it is another page.
@@ -86,8 +78,10 @@ impl<D: Disk> Snapshot<D> {
             (λ entry. held ≡ answer_under self.now.pending entry)) }
         ensures backed { IfOk result (λ held. IfSome held (IsBacked key.now self.now.active.entries (frozen_entries (λ buffer. buffer.entries) self.now.frozen) (IsVouchedBy self.now.version))) }
         ensures undamaged { D.tells → (h : History) → IsOf h self.now → (name : Name) → IsErrOf result (Damaged name) → ⊥ }
-        ensures cause { HasReadCause (D.port_faults port.old) (D.port_faults port.new) result }
-        ensures can_fail { IsFault result → D.ports_fail }
+        ensures why { IfErr result IsReadRefusal }
+        ensures fault { (before after : ℕ) → IsErrOf result (ReadFault before after) → (before ≡ D.port_faults port.old) × (after ≡ D.port_faults port.new) × Rose before after }
+        ensures can_fail { (before after : ℕ) → IsErrOf result (ReadFault before after) → D.ports_fail }
+        ensures faults { D.port_faults port.old ≤ D.port_faults port.new }
 
         // Nothing is fetched where a buffer has the key.
         ensures fetches { D.fetches port.new ≤ D.fetches port.old
@@ -95,7 +89,7 @@ impl<D: Disk> Snapshot<D> {
         ensures later { D.fetches port.old ≤ D.fetches port.new }
     {
         let erases = self.pending.items();
-        get(
+        match get(
             alloc,
             &self.active,
             self.frozen.as_ref(),
@@ -103,7 +97,10 @@ impl<D: Disk> Snapshot<D> {
             erases,
             port,
             key,
-        )
+        ) {
+            Ok(held) => Ok(held),
+            Err(why) => Err(told_as(why)),
+        }
     }
 
     /// The pairs that the keys from `lo` up to `hi` excluded had at the point, ascending.
@@ -117,11 +114,13 @@ impl<D: Disk> Snapshot<D> {
         port: &mut D::Port,
         lo: &Key,
         hi: &Key,
-    ) -> Result<Vec<(Key, u64, Value)>, ReadRefused>
+    ) -> Result<Vec<(Key, u64, Value)>, Refused>
         ensures answer { D.tells → (h : History) → IsOf h self.now → IfOk result (λ pairs. answer (after h) (Scan lo.now hi.now) ≡ Listed (by_keys pairs.items)) }
         ensures undamaged { D.tells → (h : History) → IsOf h self.now → (name : Name) → IsErrOf result (Damaged name) → ⊥ }
-        ensures cause { HasReadCause (D.port_faults port.old) (D.port_faults port.new) result }
-        ensures can_fail { IsFault result → D.ports_fail }
+        ensures why { IfErr result IsReadRefusal }
+        ensures fault { (before after : ℕ) → IsErrOf result (ReadFault before after) → (before ≡ D.port_faults port.old) × (after ≡ D.port_faults port.new) × Rose before after }
+        ensures can_fail { (before after : ℕ) → IsErrOf result (ReadFault before after) → D.ports_fail }
+        ensures faults { D.port_faults port.old ≤ D.port_faults port.new }
 
         // On any disk.
         ensures between { IfOk result (λ pairs. AreListedBetween lo.now hi.now pairs.items) }
@@ -136,7 +135,7 @@ impl<D: Disk> Snapshot<D> {
         ensures later { D.fetches port.old ≤ D.fetches port.new }
     {
         let frozen = self.frozen.as_ref();
-        scan(
+        match scan(
             alloc,
             &self.active,
             frozen,
@@ -145,7 +144,10 @@ impl<D: Disk> Snapshot<D> {
             port,
             lo,
             hi,
-        )
+        ) {
+            Ok(pairs) => Ok(pairs),
+            Err(why) => Err(told_as(why)),
+        }
     }
 
     /// How many changes the store had had.
@@ -157,21 +159,21 @@ impl<D: Disk> Snapshot<D> {
 
     /// The number of its pin, counted from 1.
     pub fn number(&self) -> u64
-        ensures { result ≡ self.now.number }
+        ensures { result ≡ self.now.pin.number }
     {
-        self.number
+        self.pin.number()
     }
 
     /// The time from which on a tick is refused while it is held.
     pub fn limit(&self) -> u64
-        ensures { result ≡ self.now.limit }
+        ensures { result ≡ self.now.pin.limit }
     {
-        self.limit
+        self.pin.limit()
     }
 
-    /// Lets go of the copies and of its share of the files. The number is answered: its pin is still to be taken back.
-    pub fn release(self) -> u64
-        ensures { result ≡ self.number }
+    /// Lets go of the copies and of its share of the files. Its pin is given back: it is still to be let go.
+    pub fn release(self) -> HeldPin
+        ensures { result ≡ self.pin }
     {
         let Snapshot {
             active: _,
@@ -179,19 +181,8 @@ impl<D: Disk> Snapshot<D> {
             version: _,
             pending: _,
             point: _,
-            number,
-            limit: _,
+            pin,
         } = self;
-        number
-    }
-}
-
-/// A copy of the frozen buffer, if there is one.
-fn copy_of(frozen: Option<&VecBuffer>) -> Result<Option<VecBuffer>, NoMemory>
-    ensures { (o : Option Segment) → IsFrozenIn o (option_copied frozen.entry) → IfOk result (IsFrozenIn o) }
-{
-    match frozen {
-        Some(buffer) => Ok(Some(buffer.copy()?)),
-        None => Ok(None),
+        pin
     }
 }

@@ -4,9 +4,10 @@ ghost use Rattle.lethe_core.specs.View.{view_of};
 
 use crate::common::{is_value, key_of, new_value, opened};
 use lethe_base::{Key, MAX_TIME, Refused};
-use lethe_disk::{Disk, ReadRefused};
+use lethe_disk::Disk;
 use lethe_drive::{Event, Reply, drive};
 use lethe_engine::Engine;
+use lethe_pins::Pins;
 use lethe_snapshot::Snapshot;
 use std::alloc::Global;
 use std::test::Fail;
@@ -84,13 +85,13 @@ impl<D: Disk> Held<D> {
     }
 
     // Lets go what is held of a store that is gone.
-    fn let_go(self) {
+    fn let_go(self, alloc: Global) {
         let Held { one, other } = self;
         if let Some(snapshot) = one {
-            snapshot.release();
+            Pins::new(alloc).unpin(snapshot.release());
         }
         if let Some(snapshot) = other {
-            snapshot.release();
+            Pins::new(alloc).unpin(snapshot.release());
         }
     }
 }
@@ -212,7 +213,7 @@ fn release<D: Disk>(engine: &mut Engine<D>, place: &mut Option<Snapshot<D>>) -> 
     Told::Done
 }
 
-const FAULT: ReadRefused = ReadRefused::ReadFault {
+const FAULT: Refused = Refused::ReadFault {
     before: 0,
     after: 1,
 };
@@ -223,7 +224,7 @@ fn has<D: Disk>(
     port: &mut D::Port,
     snapshot: &Snapshot<D>,
     key: &Key,
-) -> Result<bool, ReadRefused> {
+) -> Result<bool, Refused> {
     let found = snapshot.get(alloc, port, key)?;
     Ok(matches!(&found, Some((7, value)) if is_value(value)))
 }
@@ -318,7 +319,7 @@ pub fn told_by<D: Disk>(
     let mut held = Held::new();
     let told = answer_all(alloc, &mut engine, &mut held, asks);
     let disk = engine.into_disk();
-    held.let_go();
+    held.let_go(alloc);
     Ok((told?, disk))
 }
 

@@ -14,7 +14,7 @@ type Row = (&'static str, &'static str, bool);
 /// The put of the key `a` with the delete key 5 and the value `x`, as it stands in a segment or a page.
 const PUT: &[u8] = b"\x01a\0\0\0\0\0\0\0\x05\0\x01x";
 
-const ROWS: [Row; 16] = [
+const ROWS: [Row; 17] = [
     (
         "1 put a 5 x\n1 del a\n1 tick 99\n1 get a\n1 tick 100\n",
         "1 ok 1\n1 ok 2\n1 ok 3 clock 99\n1 at 3 none\n1 ok 4 clock 100 cert 1 before 0 sha256 H\n",
@@ -91,6 +91,12 @@ const ROWS: [Row; 16] = [
     (
         "1 put a 5 x\n1 tick 10\n1 del a\n1 tick 40\n1 pin 0\n1 tick 109\n1 tick 110\n",
         "1 ok 1\n1 ok 2 clock 10\n1 ok 3\n1 ok 4 clock 40\n1 at 4 pin 1 limit 110\n1 ok 5 clock 109 cert 1 before 9 sha256 H\n1 pinned 1 limit 110\n",
+        false,
+    ),
+    // An erase that is done bars no tick.
+    (
+        "1 put a 22 v\n1 put b 50 v\n1 put c 50 v\n1 erase 21 26\n1 tick 20\n1 put d 50 v\n1 put e 50 v\n1 put f 50 v\n1 put g 50 v\n1 put h 50 v\n1 stat\n1 pin 0\n1 tick 100\n1 unpin 0\n",
+        "1 ok 1\n1 ok 2\n1 ok 3\n1 ok 4\n1 ok 5 clock 20\n1 ok 6\n1 ok 7\n1 ok 8\n1 ok 9\n1 ok 10\n1 at 10 stat clock 20 pins 0 pending 0 files 1 tombs 0\n1 at 10 pin 1 limit 120\n1 ok 11 clock 100 cert 1 before 0 sha256 H\n1 at 11 unpin 1\n",
         false,
     ),
     // The least and the greatest time.

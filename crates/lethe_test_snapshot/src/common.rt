@@ -7,7 +7,9 @@ ghost use Rattle.lethe_state.specs.Writable.{IsWritable};
 use lethe_base::{Key, Range, Value};
 use lethe_disk::Disk;
 use lethe_manifest::read_manifest;
+use lethe_pins::Pins;
 use lethe_segment::Record;
+use lethe_snapshot::{Contents, Snapshot};
 use lethe_state::{Prepared, State};
 use lethe_version::Version;
 use std::alloc::Global;
@@ -163,4 +165,24 @@ pub fn filled(alloc: Global, new: State, frozen: &str, active: &str) -> Result<S
     freeze(alloc, &mut state)?;
     put(alloc, &mut state, active)?;
     Ok(state)
+}
+
+/// What the store holds now, for a pin of that limit which keeps no names.
+pub fn taken<D: Disk>(
+    alloc: Global,
+    pins: &mut Pins,
+    state: &State,
+    version: &Version<D>,
+    limit: u64,
+) -> Result<Snapshot<D>, Fail> {
+    let contents = Contents::of(alloc, state, version)?;
+    match pins.pin(Vec::new(alloc), limit) {
+        Ok(pin) => Ok(Snapshot::of(contents, pin)),
+        Err(_) => Err(Fail::new("a pin")),
+    }
+}
+
+/// Lets a snapshot and its pin go. Answers whether it was held.
+pub fn let_go<D: Disk>(pins: &mut Pins, snapshot: Snapshot<D>) -> bool {
+    pins.unpin(snapshot.release())
 }

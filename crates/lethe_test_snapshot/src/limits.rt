@@ -1,9 +1,13 @@
 //! The limit of a pin, by what is older than the clock.
 
+ghost use Rattle.std.specs.Prelude.{OnOk};
+ghost use Rattle.lethe_state.specs.Writable.{IsWritable};
+
 use crate::common::{erase_at, freeze, put_since, state_at};
 use crate::files::version_of;
 use lethe_memdisk::MemDisk;
 use lethe_snapshot::limit_of;
+use lethe_state::State;
 use lethe_version::Version;
 use std::alloc::Global;
 use std::test::Fail;
@@ -130,16 +134,34 @@ const ROWS: [Row; 11] = [
     },
 ];
 
+/// Puts of both buffers, where the row has them.
+fn put_all(alloc: Global, state: &mut State, row: &Row) -> Result<(), Fail>
+    requires { IsWritable state.old }
+    ensures { OnOk result (IsWritable state.new) }
+{
+    if !row.puts {
+        return Ok(());
+    }
+    put_since(alloc, state, "e", row.frozen)?;
+    freeze(alloc, state)?;
+    put_since(alloc, state, "f", row.active)
+}
+
+/// The erase that the active segment records, where the row has one.
+fn erase(alloc: Global, state: &mut State, row: &Row) -> Result<(), Fail>
+    requires { IsWritable state.old }
+    ensures { OnOk result (IsWritable state.new) }
+{
+    match row.recorded {
+        Some(time) => erase_at(alloc, state, time),
+        None => Ok(()),
+    }
+}
+
 fn limit_with(alloc: Global, row: &Row) -> Result<u64, Fail> {
     let mut state = state_at(alloc, 50, row.erase)?;
-    if row.puts {
-        put_since(alloc, &mut state, "e", row.frozen)?;
-        freeze(alloc, &mut state)?;
-        put_since(alloc, &mut state, "f", row.active)?;
-    }
-    if let Some(time) = row.recorded {
-        erase_at(alloc, &mut state, time)?;
-    }
+    put_all(alloc, &mut state, row)?;
+    erase(alloc, &mut state, row)?;
     let version = if row.file {
         version_of::<MemDisk>(alloc)?
     } else {

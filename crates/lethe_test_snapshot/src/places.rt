@@ -1,10 +1,12 @@
 //! Snapshots of a store with values in its active buffer, its frozen one and a file, which are deleted then.
 ghost use Rattle.lethe_state.specs.Writable.{IsWritable};
 
-use crate::common::{delete, filled, key_of, new_state};
+use crate::common::{delete, filled, key_of, let_go, new_state, taken};
 use crate::files::version_of;
-use lethe_disk::{Disk, ReadRefused};
+use lethe_base::Refused;
+use lethe_disk::Disk;
 use lethe_memdisk::{FlakyDisk, FlakyPort, MemDisk, MemPort};
+use lethe_pins::Pins;
 use lethe_snapshot::Snapshot;
 use lethe_state::State;
 use lethe_version::Version;
@@ -37,7 +39,7 @@ fn got<D: Disk>(
     port: &mut D::Port,
     snapshot: &Snapshot<D>,
     text: &str,
-) -> Result<Result<Vec<u8>, ReadRefused>, Fail> {
+) -> Result<Result<Vec<u8>, Refused>, Fail> {
     match snapshot.get(alloc, port, &key_of(alloc, text)?) {
         Ok(Some((_, value))) => Ok(Ok(value.bytes().to_vec(alloc)?)),
         Ok(None) => Ok(Ok(Vec::new(alloc))),
@@ -50,7 +52,7 @@ fn listed<D: Disk>(
     alloc: Global,
     port: &mut D::Port,
     snapshot: &Snapshot<D>,
-) -> Result<Result<Vec<u8>, ReadRefused>, Fail> {
+) -> Result<Result<Vec<u8>, Refused>, Fail> {
     match snapshot.scan(alloc, port, &key_of(alloc, "a")?, &key_of(alloc, "z")?) {
         Ok(pairs) => {
             let mut values = Vec::new(alloc);
@@ -64,19 +66,19 @@ fn listed<D: Disk>(
 }
 
 /// Whether these were read.
-fn is(read: &Result<Vec<u8>, ReadRefused>, values: &str) -> bool {
+fn is(read: &Result<Vec<u8>, Refused>, values: &str) -> bool {
     match read {
         Ok(bytes) => bytes.as_slice() == values.as_bytes(),
         Err(_) => false,
     }
 }
 
-const FAULT: ReadRefused = ReadRefused::ReadFault {
+const FAULT: Refused = Refused::ReadFault {
     before: 0,
     after: 1,
 };
 
-fn is_fault(read: &Result<Vec<u8>, ReadRefused>) -> bool {
+fn is_fault(read: &Result<Vec<u8>, Refused>) -> bool {
     match read {
         Ok(_) => false,
         Err(why) => *why == FAULT,
@@ -113,9 +115,10 @@ fn shows_all_behind_each(
 
 /// Whether a snapshot that is made now shows what is left.
 fn shows_left(alloc: Global, state: &State, version: &Version<MemDisk>) -> Result<bool, Fail> {
-    let snapshot = Snapshot::of(alloc, state, version, 2, 100)?;
+    let mut pins = Pins::new(alloc);
+    let snapshot = taken(alloc, &mut pins, state, version, 100)?;
     let left = listed(alloc, &mut MemPort::new(), &snapshot);
-    snapshot.release();
+    let_go(&mut pins, snapshot);
     Ok(is(&left?, LEFT))
 }
 
@@ -124,9 +127,10 @@ fn a_snapshot_shows_what_each_place_had(rt: HostRuntime) -> Result<(), Fail> {
     let alloc = rt.alloc();
     let version = version_of(alloc)?;
     let mut state = filled(alloc, new_state(alloc)?, "e", "f")?;
-    let snapshot = Snapshot::of(alloc, &state, &version, 1, 100)?;
+    let mut pins = Pins::new(alloc);
+    let snapshot = taken(alloc, &mut pins, &state, &version, 100)?;
     let shown = shows_all_behind_each(alloc, &mut state, &version, &snapshot);
-    snapshot.release();
+    let_go(&mut pins, snapshot);
     assert!(rt; shown?);
     assert!(rt; shows_left(alloc, &state, &version)?);
     Ok(())
@@ -190,9 +194,10 @@ fn a_read_that_a_fault_refused_answers_the_next_time(rt: HostRuntime) -> Result<
     let alloc = rt.alloc();
     let version = version_of(alloc)?;
     let mut state = filled(alloc, new_state(alloc)?, "e", "f")?;
-    let snapshot = Snapshot::of(alloc, &state, &version, 1, 100)?;
+    let mut pins = Pins::new(alloc);
+    let snapshot = taken(alloc, &mut pins, &state, &version, 100)?;
     let answered = reads_again(alloc, &mut state, &version, &snapshot);
-    assert_eq!(rt; snapshot.release(), 1);
+    assert!(rt; let_go(&mut pins, snapshot));
     assert!(rt; answered?);
     Ok(())
 }

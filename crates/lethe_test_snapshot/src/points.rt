@@ -1,8 +1,9 @@
 //! Snapshots that are read once the state has changed.
 ghost use Rattle.lethe_state.specs.Writable.{IsWritable};
 
-use crate::common::{delete, filled, key_of, new_state, put, state_at};
+use crate::common::{delete, filled, key_of, let_go, new_state, put, state_at, taken};
 use lethe_memdisk::{MemDisk, MemPort};
+use lethe_pins::Pins;
 use lethe_snapshot::Snapshot;
 use lethe_state::State;
 use lethe_version::Version;
@@ -54,9 +55,10 @@ fn shows_now(
     version: &Version<MemDisk>,
     wanted: &str,
 ) -> Result<bool, Fail> {
-    let snapshot = Snapshot::of(alloc, state, version, 8, 100)?;
+    let mut pins = Pins::new(alloc);
+    let snapshot = taken(alloc, &mut pins, state, version, 100)?;
     let shown = shows(alloc, &snapshot, wanted);
-    snapshot.release();
+    let_go(&mut pins, snapshot);
     shown
 }
 
@@ -78,12 +80,14 @@ fn a_snapshot_shows_what_was_there_at_its_point(rt: HostRuntime) -> Result<(), F
     let alloc = rt.alloc();
     let version = Version::of(alloc, Vec::new(alloc))?;
     let mut state = filled(alloc, new_state(alloc)?, "a", "b")?;
-    let snapshot = Snapshot::of(alloc, &state, &version, 7, 90)?;
+    let mut pins = Pins::new(alloc);
+    let snapshot = taken(alloc, &mut pins, &state, &version, 90)?;
     let shown = shows_past(alloc, &mut state, &version, &snapshot);
-    let (point, limit) = (snapshot.point(), snapshot.limit());
-    let number = snapshot.release();
+    let told = (snapshot.point(), snapshot.number(), snapshot.limit());
+    let held = let_go(&mut pins, snapshot);
     assert!(rt; shown?);
-    assert_eq!(rt; (point, number, limit), (2, 7, 90));
+    assert_eq!(rt; told, (2, 1, 90));
+    assert!(rt; held && pins.len() == 0);
     assert!(rt; shows_now(alloc, &state, &version, "c")?);
     Ok(())
 }

@@ -26,7 +26,7 @@ use Rattle.lethe_stored.specs.Stored.{Segment, Stored, IsCoherent, layout_of, re
 use Rattle.lethe_pins.specs.Held.{is_named}
 use Rattle.lethe_pins.specs.declared.pin.Pin.{Pin}
 use Rattle.lethe_core.specs.Keeps.{Keeps, MayStep}
-use Rattle.lethe_core.specs.Merges.{AreOutcomesBy, AreRetiredBehind, AreSomeOutcomesBy, HasNoMergeBy, Outcome, due_choice}
+use Rattle.lethe_core.specs.Merges.{AreOutcomesBy, AreSomeOutcomesBy, HasNoMergeBy, Outcome, due_choice}
 use Rattle.lethe_core.specs.Pinned.{AreKept, AreNamed}
 use Rattle.lethe_core.specs.Running.{Holds}
 use Rattle.lethe_core.specs.StandsNow.{StandsNow}
@@ -128,11 +128,6 @@ kept_twice pins d mid end first last name named = last name named ∙ first name
 -- of names those that pins name are named
 pub named_left : (pins : List Pin) (names : List Name) → AreNamed pins (filter (is_named pins) names)
 named_left pins names = All-weaker (λ (name : Name). is_named pins name ≡ true) (λ (name : Name). IsTrue (is_named pins name)) (λ name is. is) (filter (is_named pins) names) (filter_passes (is_named pins) names)
-
--- what was named before merges and sweeps is behind them
-pub named_behind : (outcomes : List Outcome) (pins : List Pin) (before now : List Name) → AreNamed pins before → AreRetiredBehind outcomes pins before now → AreNamed pins now
-named_behind [] pins before now named is = subst (AreNamed pins) (sym is) named
-named_behind (outcome ∷ more) pins before now named is = is
 
 -- What stands for a history still does so behind the flushes
 

@@ -25,9 +25,9 @@ returns-in-Ok-clause-step g c = λ told config opened h answered stands s known 
       known_pinned config h old new s new.pins same (is.held told s) known,
       stands_call is.answers told config opened h answered stands,
       (
-        Ok snapshot.number,
+        Ok snapshot.pin.number,
         ap reply.Pinned c.number-number.ensures,
-        has_pinned h old new s fetches faults begun there (numbers_of snapshots) snapshot.number snapshot.limit is.number known.remembers (is.limit s known.remembers) is.pinned same few
+        has_pinned h old new s fetches faults begun there (numbers_of snapshots) snapshot.pin.number snapshot.pin.limit is.number known.remembers (is.limit s known.remembers) is.pinned same few
             (numbers_of c.push.new.self.items) (ap numbers_of pushed ∙ pushed_numbers snapshots snapshot),
       ),
     )

@@ -26,12 +26,12 @@ returns-clause-step g c = λ told config opened h answered stands s known fetche
     let snapshot = c.remove.result in
     let left = c.remove.new.self.items in
     let is = c.release.ensures in
-    let pins = record old.pins { pins = without snapshot.number old.pins.pins } in
+    let pins = record old.pins { pins = without snapshot.pin.number old.pins.pins } in
     let same : new ≡ record old { pins = pins } = λ i. view_of (is.same i).core in
-    let number : snapshot.number ≡ c.args.number =
+    let number : snapshot.pin.number ≡ c.args.number =
     number_at number_of c.args.number snapshots c.deref.result.now c.deref.ensures.value c.pin_place.result c.pin_place.ensures.first place c.in-Some.is (front snapshots place within) (back snapshots place within) snapshot
     (front_len snapshots place within) (among snapshots place within snapshot c.remove.ensures.value) in
-    let gone = has_released h old new s fetches faults begun there (numbers_of snapshots) snapshot.number (numbers_of (front snapshots place within)) (numbers_of (back snapshots place within))
+    let gone = has_released h old new s fetches faults begun there (numbers_of snapshots) snapshot.pin.number (numbers_of (front snapshots place within)) (numbers_of (back snapshots place within))
     (among_numbers snapshots place within snapshot c.remove.ensures.value) same (numbers_of left) (left_numbers snapshots place within left c.remove.ensures.by_index.2) in (
       h,
       s,

@@ -27,9 +27,9 @@ loop-snapshot-preserved g c =
       stands = λ told config opened h answered stands. stands_call is.answers told config opened h answered (so_far.stands told config opened h answered stands);
       held = λ told s holds. is.held told s (so_far.held told s holds);
       gone = (
-        snapshot.number ∷ taken,
-        so_far.gone.1 ∙ ap (λ (l : List ℕ). l ++ taken) (ap numbers_of popped ∙ pushed_numbers c.pop.new.self.items snapshot) ∙ append_assoc (numbers_of c.pop.new.self.items) (snapshot.number ∷ []) taken,
-        is.same ∙ (λ i. let engine = so_far.gone.2 i in record engine { core = record engine.core { pins = record engine.core.pins { pins = without snapshot.number engine.core.pins.pins } } }),
+        snapshot.pin.number ∷ taken,
+        so_far.gone.1 ∙ ap (λ (l : List ℕ). l ++ taken) (ap numbers_of popped ∙ pushed_numbers c.pop.new.self.items snapshot) ∙ append_assoc (numbers_of c.pop.new.self.items) (snapshot.pin.number ∷ []) taken,
+        is.same ∙ (λ i. let engine = so_far.gone.2 i in record engine { core = record engine.core { pins = record engine.core.pins { pins = without snapshot.pin.number engine.core.pins.pins } } }),
       );
     }
 

@@ -26,7 +26,7 @@ returns-in-Err-clause-row g c =
     let why = c.in-Err.why in
     let some = c.in-Some.ensures.some in
     let fits = some.2 in
-    unheld_row g.D.Disk.tells old c.requires.runs c.args.asked.now.items c.in-Some.first c.next_with_room.new.asked.items some.0 new c.in-Err.ensures.sound c.hold.ensures.any_moment c.hold.ensures.numbers c.hold.ensures.faults c.hold.ensures.pinned
+    unheld_row g.D.Disk.tells old c.requires.runs c.args.asked.now.items c.in-Some.first c.next_with_room.new.asked.items some.0 new c.in-Err.ensures.sound c.hold.ensures.any_moment c.hold.ensures.numbers c.hold.ensures.drawn c.hold.ensures.faults c.hold.ensures.pinned
     (omega (arith, fits)) why (subst (λ n. HasReason ⊥ old.state n new.faults why) c.faults-before.ensures c.in-Err.ensures.why) c.in-Err.ensures.count c.in-Err.ensures.stopped c.in-Err.ensures.stands
     (λ is. c.hold.ensures.untouched (c.in-Err.is ∙ ap Err is))
 
@@ -94,7 +94,7 @@ returns-in-Err-pass_on-clause-row g c =
     failed_row g.D.Disk.tells (view_of c.args.core.now) c.requires.runs c.args.asked.now.items (Unit {0}) c.loop-change.invariant.held.0 c.loop-change.waiting c.loop-change.asked.items (view_of c.loop-change.core) held
     c.faults-before.result c.faults-before.ensures (view_of c.pass_on.new.core) c.in-Err-pass_on.why c.next_with_room-in-loop-change.new.asked.items (inr (c.in-Some-next_with_room.change, c.in-Some-next_with_room.ensures.some.0)) c.loop-change.done c.loop-change.invariant.held.1 c.in-Err-pass_on.ensures.sound
     c.in-Err-pass_on.ensures.count c.in-Err-pass_on.ensures.stopped (λ told config h caller call change stands will. c.in-Err-pass_on.ensures.stands told held.at held.rest config h caller call change stands will)
-    (λ told config h caller stands will. c.pass_on.ensures.any_moment told held.at held.rest config h caller (call_of held.next) stands will) c.pass_on.ensures.numbers c.pass_on.ensures.faults c.pass_on.ensures.pinned
+    (λ told config h caller stands will. c.pass_on.ensures.any_moment told held.at held.rest config h caller (call_of held.next) stands will) c.pass_on.ensures.numbers c.pass_on.ensures.drawn c.pass_on.ensures.faults c.pass_on.ensures.pinned
     c.in-Err-pass_on.ensures.why (λ is. c.pass_on.ensures.memory (c.in-Err-pass_on.is ∙ ap Err is))
 
 -- There was no memory for the next one
@@ -122,7 +122,7 @@ returns-in-Ok-false-clause-row g c =
     c.pass_on.ensures.numbers c.pass_on.ensures.faults c.pass_on.ensures.pinned c.pass_on.ensures.pins in
     let there = subst (λ waiting. IsHeld tells ⊥ old c.args.asked.now.items c.loop-change.invariant.held.0 waiting c.loop-change.asked.items mid) (sym same) held in
     last_row tells old c.requires.runs c.args.asked.now.items ⊥ c.loop-change.invariant.held.0 c.pass_on.new.waiting c.loop-change.asked.items mid there c.faults-before.result c.faults-before.ensures new
-    c.next_with_room-in-loop-change.new.asked.items (inr (c.in-Some-next_with_room.change, c.in-Some-next_with_room.ensures.some.0)) c.loop-change.done c.loop-change.invariant.held.1 c.count_last-last.ensures.sound c.count_last-last.ensures.numbers c.count_last-last.ensures.faults c.count_last-last.ensures.pinned
+    c.next_with_room-in-loop-change.new.asked.items (inr (c.in-Some-next_with_room.change, c.in-Some-next_with_room.ensures.some.0)) c.loop-change.done c.loop-change.invariant.held.1 c.count_last-last.ensures.sound c.count_last-last.ensures.numbers c.count_last-last.ensures.drawn c.count_last-last.ensures.faults c.count_last-last.ensures.pinned
     (λ told config h caller stands will. c.count_last-last.ensures.any_moment told there.at there.rest config h caller (call_of there.next) stands will) (Some NoMemory) (λ is. absurd (let clash : Some NoMemory ≡ None = is in cc)) c.requires.runs
     (λ counts. (refl, c.in-Some-next_with_room.change, c.in-Some-next_with_room.ensures.some.0)) c.count_last-last.result (c.count_last-last.ensures.counted there.at there.rest) c.count_last-last.ensures.count
     c.count_last-last.ensures.stopped c.count_last-last.ensures.why c.count_last-last.ensures.memory (λ told config h caller call change stands will. c.count_last-last.ensures.stands told there.at there.rest config h caller call change stands will)
@@ -142,7 +142,7 @@ returns-clause-row g c =
     let held = c.loop-change.invariant.held.2 in
     let none = c.next_with_room-in-loop-change.ensures.none c.in_default-next_with_room.is in
     last_row tells old c.requires.runs c.args.asked.now.items (Unit {0}) c.loop-change.invariant.held.0 c.loop-change.waiting c.loop-change.asked.items mid held c.faults-before.result c.faults-before.ensures new
-    c.next_with_room-in-loop-change.new.asked.items (inl none.0) c.loop-change.done c.loop-change.invariant.held.1 c.count_last-last-2.ensures.sound c.count_last-last-2.ensures.numbers c.count_last-last-2.ensures.faults c.count_last-last-2.ensures.pinned
+    c.next_with_room-in-loop-change.new.asked.items (inl none.0) c.loop-change.done c.loop-change.invariant.held.1 c.count_last-last-2.ensures.sound c.count_last-last-2.ensures.numbers c.count_last-last-2.ensures.drawn c.count_last-last-2.ensures.faults c.count_last-last-2.ensures.pinned
     (λ told config h caller stands will. c.count_last-last-2.ensures.any_moment told held.at held.rest config h caller (call_of held.next) stands will) None (λ is. tt) c.requires.runs
     (λ counts. (refl, none.0, at_end_behind mid new c.loop-change.waiting.record c.loop-change.waiting.end counts.state c.loop-change.asked.items none.1)) c.count_last-last-2.result (c.count_last-last-2.ensures.counted held.at held.rest)
     c.count_last-last-2.ensures.count c.count_last-last-2.ensures.stopped c.count_last-last-2.ensures.why c.count_last-last-2.ensures.memory

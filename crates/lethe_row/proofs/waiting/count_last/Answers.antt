@@ -110,3 +110,6 @@ returns-in-Err-clause-numbers g c = λ told.
     let later = later_there g.D.Disk.tells view c.requires.rest.0 c.args.waiting c.requires.rest.1 told view.state (like_of view.state view.state refl) c.active_segment-segment.result c.active_segment-segment.ensures c.end.result c.end.ensures (λ a. 1)
     (g.D.Disk.seen c.append_last.new.disk) (λ a waits ends. c.append_last.ensures.any_moment told a waits) in
     subst (λ (new : View). new.state.next + view.disk.moment ≤ view.state.next + new.disk.moment) (sym (stopped_as g c)) (omega (arith, later))
+
+pub returns-in-Err-clause-drawn : goal.returns-in-Err-clause-drawn
+returns-in-Err-clause-drawn g c = subst (λ (new : View). c.args.core.now.state.next ≤ new.state.next) (sym (stopped_as g c)) (omega arith)

@@ -156,6 +156,11 @@ returns-in-Err-Failed-clause-numbers g c = λ told.
     (length c.deref.result.now + 2) (g.D.Disk.seen c.append_first.new.disk) (c.append_first.ensures.any_moment told) in
     subst (λ (view : View). view.state.next + old.disk.moment ≤ old.state.next + view.disk.moment) (sym (stopped_as g c)) (omega (arith, later, next))
 
+pub returns-in-Err-Failed-clause-drawn : goal.returns-in-Err-Failed-clause-drawn
+returns-in-Err-Failed-clause-drawn g c =
+    let next = c.prepare.ensures.same.next in
+    subst (λ (view : View). c.args.core.now.state.next ≤ view.state.next) (sym (stopped_as g c)) (omega (arith, next))
+
 -- There was no memory to write it
 
 pub returns-clause-stands : goal.returns-clause-stands

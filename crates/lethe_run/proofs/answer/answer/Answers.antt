@@ -8,7 +8,8 @@ use Rattle.lethe_pins.specs.Held.{Held}
 use Rattle.lethe_core.specs.View.{Face, view_of}
 use Rattle.lethe_core.specs.Merges.{due_choice}
 use Rattle.lethe_core.proofs.Short.{chosen_are_short, merges_are_short}
-use Rattle.lethe_engine.specs.Reads.{IsReadRefusal, listed}
+use Rattle.lethe_read.specs.Refusals.{IsReadRefusal}
+use Rattle.lethe_engine.specs.Reads.{listed}
 use Rattle.lethe_script.specs.Slots.{held_behind}
 use Rattle.lethe_script.specs.declared.order.Act.TheVariants as acts
 use Rattle.lethe_run.specs.declared.reply.Reply.TheVariants as reply

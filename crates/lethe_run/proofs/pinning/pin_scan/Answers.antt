@@ -34,7 +34,7 @@ returns-in-Err-clause-told g c = λ from upto s slot there.
     let Ports = g.D.Disk.ports_fail in
     let act = acts.PinScan slot c.args.lo.now c.args.hi.now in
     subst (λ r. IfOk r (λ reply. IsTold Ports from upto act s reply s)) (sym c.unread.ensures)
-    (slot_unread_tells Ports from upto act s (inr refl) c.in-Err.why (λ before after is. c.scan.ensures.can_fail (before, after, c.in-Err.is ∙ ap Err is)))
+    (slot_unread_tells Ports from upto act s (inr refl) c.in-Err.why c.in-Err.ensures.why (λ before after is. c.scan.ensures.can_fail before after (c.in-Err.is ∙ ap Err is)))
 
 pub returns-in-Err-clause-served : goal.returns-in-Err-clause-served
 returns-in-Err-clause-served g c = λ told begin h caller slot faults moment shown.
@@ -42,5 +42,5 @@ returns-in-Err-clause-served g c = λ told begin h caller slot faults moment sho
     let act = acts.PinScan slot c.args.lo.now c.args.hi.now in
     let snapshot = c.args.snapshot.now in
     subst (λ r. IfOk r (IsLookedUp Ports begin faults moment h caller act)) (sym c.unread.ensures)
-    (slot_unread Ports begin faults moment h caller act (inr refl) c.in-Err.why (λ before after is. c.scan.ensures.can_fail (before, after, c.in-Err.is ∙ ap Err is))
+    (slot_unread Ports begin faults moment h caller act (inr refl) c.in-Err.why c.in-Err.ensures.why (λ before after is. c.scan.ensures.can_fail before after (c.in-Err.is ∙ ap Err is))
     (λ name is. c.scan.ensures.undamaged told (without_failed (take snapshot.point h)) shown.shows name (c.in-Err.is ∙ ap Err is)))

@@ -21,7 +21,7 @@ returns-clause-told g c =
     let snapshot = c.take-snapshot.result in
     let is = c.release.ensures in
     let state : new.state ≡ old.state = λ i. (is.same i).core.state in
-    let same : new ≡ record old { pins = record old.pins { pins = without snapshot.number old.pins.pins } } = λ i. view_of (is.same i).core in
+    let same : new ≡ record old { pins = record old.pins { pins = without snapshot.pin.number old.pins.pins } } = λ i. view_of (is.same i).core in
     unpin_told old new state g.D.Disk.ports_fail (slots_of old held) (slots_of new left) slot (pin_of snapshot) c.count.result c.number-number.result (c.count.ensures ∙ ap (λ (state : State). state.count) state) c.number-number.ensures
     (pin_at held old slot (Some snapshot) c.take-snapshot.ensures.was)
     (slots_fewer held left slot old new c.requires.pins c.take-snapshot.ensures.within snapshot c.take-snapshot.ensures.free c.take-snapshot.ensures.was c.requires.sound.pins same)
@@ -42,7 +42,7 @@ returns-clause-pins g c =
     let old = view_of c.args.engine.now.core in
     let new = view_of c.release.new.self.core in
     let snapshot = c.take-snapshot.result in
-    let same : new ≡ record old { pins = record old.pins { pins = without snapshot.number old.pins.pins } } = λ i. view_of (c.release.ensures.same i).core in
+    let same : new ≡ record old { pins = record old.pins { pins = without snapshot.pin.number old.pins.pins } } = λ i. view_of (c.release.ensures.same i).core in
     holds_fewer c.args.slots.now.held.items c.take-snapshot.new.self.held.items c.args.slot.now old new c.requires.pins c.take-snapshot.ensures.within snapshot c.take-snapshot.ensures.free c.take-snapshot.ensures.was c.requires.sound.pins same
 
 pub returns-clause-slotted : goal.returns-clause-slotted
@@ -51,6 +51,6 @@ returns-clause-slotted g c =
     let new = view_of c.release.new.self.core in
     let held = c.args.slots.now.held.items in
     let snapshot = c.take-snapshot.result in
-    let same : new ≡ record old { pins = record old.pins { pins = without snapshot.number old.pins.pins } } = λ i. view_of (c.release.ensures.same i).core in
+    let same : new ≡ record old { pins = record old.pins { pins = without snapshot.pin.number old.pins.pins } } = λ i. view_of (c.release.ensures.same i).core in
     behind_held held c.args.slot.now _ c.requires.held
     ∙ ap Some (sym (held_fewer held c.take-snapshot.new.self.held.items c.args.slot.now old new c.requires.pins c.take-snapshot.ensures.within snapshot c.take-snapshot.ensures.free c.take-snapshot.ensures.was c.requires.sound.pins same))

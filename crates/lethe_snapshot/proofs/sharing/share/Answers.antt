@@ -3,7 +3,7 @@ use Rattle.lethe_flush.proofs.Results.{ok_weaker}
 use Rattle.lethe_version.specs.Versions.{levels_of}
 use Rattle.lethe_advance.specs.Shown.{AreLevelsWith, new_parts, parts_by_level, parts_in}
 use Rattle.lethe_advance.proofs.Opened.{levels_with}
-use Rattle.lethe_snapshot.proofs.SameFiles.{ok_all, same_files}
+use Rattle.lethe_snapshot.proofs.SameFiles.{ok_all, same_files, unchanged_files}
 use Rattle.lethe_snapshot.proofs.sharing.share.Goals as goal
 
 pub returns-clause-levels : goal.returns-clause-levels
@@ -16,3 +16,6 @@ returns-clause-levels g c =
 
 pub returns-clause-files : goal.returns-clause-files
 returns-clause-files g c = λ s has. ok_weaker c.with.result _ _ (returns-clause-levels g c) (λ next made. same_files s (parts_by_level c.args.version.now) (parts_by_level next) made has)
+
+pub returns-clause-same : goal.returns-clause-same
+returns-clause-same g c = ok_weaker c.with.result _ _ (returns-clause-levels g c) (λ next made. unchanged_files (parts_by_level c.args.version.now) (parts_by_level next) made)

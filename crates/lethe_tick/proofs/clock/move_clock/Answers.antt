@@ -150,6 +150,11 @@ returns-in_err-carry_out_spelled-clause-numbers g c = λ told.
     let on = c.carry_out_spelled.ensures.later told in
     omega (arith, same, on)
 
+pub returns-in_err-carry_out_spelled-clause-drawn : goal.returns-in_err-carry_out_spelled-clause-drawn
+returns-in_err-carry_out_spelled-clause-drawn g c =
+    let same = hindered_next g.D.Disk.tells (view_of c.args.core.now) (view_of c.carry_out_spelled.new.self) c.args.before c.in_err-carry_out_spelled.field-0.0 c.in_err-carry_out_spelled.ensures.refused in
+    omega (arith, same)
+
 pub returns-in_err-carry_out_spelled-clause-pinned : goal.returns-in_err-carry_out_spelled-clause-pinned
 returns-in_err-carry_out_spelled-clause-pinned g c =
     let old = view_of c.args.core.now in
@@ -221,6 +226,13 @@ returns-clause-any_moment g c = λ told config h stands forward due caller.
     let step = c.in_ok-step.step in
     let from = subst (λ headers. IsStepFrom (segments_for old.state.frozen) old.state headers step) (sym c.new.ensures.items) c.in_ok-step.ensures.step in
     tick_moments g.D.Disk.tells old c.args.before c.args.to c.requires.may headers step c.new.ensures.items from c.in_ok-step.ensures.ticks config h stands forward due caller new c.carry_out_spelled.ensures.moments told
+
+pub returns-clause-drawn : goal.returns-clause-drawn
+returns-clause-drawn g c =
+    let next = ap (λ (state : State). state.next) c.tick.ensures.is in
+    let number = c.in_ok-step.ensures.step.numbers in
+    let above = c.in_ok-step.ensures.step.next in
+    omega (arith, next, number, above)
 
 pub returns-clause-numbers : goal.returns-clause-numbers
 returns-clause-numbers g c = λ told.

@@ -17,9 +17,10 @@ use Rattle.lethe_core.specs.View.{view_of}
 use Rattle.lethe_core.proofs.Behind.{next_may, reason_behind}
 use Rattle.lethe_core.proofs.Fetched.{not_damaged}
 use Rattle.lethe_core.proofs.Hindered.{keeps_then}
+use Rattle.lethe_core.proofs.Retired.{named_still}
 use Rattle.lethe_tick.specs.Ripened.{IsRipened, IsShortToTick, IsTickedInPart}
-use Rattle.lethe_tick.proofs.Buffers.{reason_then, reason_told}
-use Rattle.lethe_tick.proofs.Ripe.{named_behind, named_left}
+use Rattle.lethe_tick.proofs.Buffers.{if_ok, reason_then, reason_told}
+use Rattle.lethe_tick.proofs.Ripe.{named_left}
 use Rattle.lethe_tick.proofs.ticking.ripen_store.Goals as goal
 
 -- The calls
@@ -153,22 +154,15 @@ returns-clause-done g c = λ told s holds.
     (λ done. (first.0, done.0, done.1, first.1, done.2, done.3, done.4))
 
 pub returns-clause-named : goal.returns-clause-named
-returns-clause-named g c = λ told.
+returns-clause-named g c =
     let old = view_of c.args.core.now in
-    let free = view_of c.clear_now.new.self in
     let mid = view_of c.ripen_buffers.new.core in
     let new = view_of c.ripen.new.self in
-    let start = g.D.Disk.fetches c.args.port.now in
-    let now = g.D.Disk.fetches c.ripen.new.port in
-    let held = c.requires.sound.held told in
-    let first = c.in_ok-ripen_buffers.ensures.done told held.0 (c.in_ok-clear_now.ensures.held told held.0 (record { remembers = held.1; running = held.2 c.requires.runs })) in
     let pins : mid.pins ≡ old.pins = c.in_ok-ripen_buffers.ensures.keeps.pins ∙ c.in_ok-clear_now.ensures.keeps.pins in
     let retired : mid.retired ≡ filter (is_named old.pins.pins) old.retired = (λ i. (c.ripen_buffers.ensures.retired i).items) ∙ c.in_ok-clear_now.ensures.retired in
     let before : AreNamed mid.pins.pins mid.retired = subst (λ names. AreNamed mid.pins.pins names) (sym retired) (subst (λ (held : Held). AreNamed held.pins (filter (is_named old.pins.pins) old.retired)) (sym pins) (named_left old.pins.pins old.retired)) in
-    on_ok c.ripen.result
-    ((t : Stored) × (outcomes : List Outcome) × AreOutcomesBy (due_choice c.args.to) first.0 outcomes t × Holds new t × (now ≡ start + pages_of outcomes) × AreRetiredBehind outcomes mid.pins.pins mid.retired new.retired)
-    (AreNamed new.pins.pins new.retired) (c.ripen.ensures.done told first.0 first.2)
-    (λ done. subst (λ (held : Held). AreNamed held.pins new.retired) (sym c.ripen.ensures.keeps.pins) (named_behind done.1 mid.pins.pins mid.retired new.retired before done.5))
+    if_ok c.ripen.result (AreNamed new.pins.pins new.retired)
+    (subst (λ (held : Held). AreNamed held.pins new.retired) (sym c.ripen.ensures.keeps.pins) (named_still mid.pins.pins mid.retired new.retired before c.ripen.ensures.keeps.retired))
 
 pub returns-clause-why : goal.returns-clause-why
 returns-clause-why g c =

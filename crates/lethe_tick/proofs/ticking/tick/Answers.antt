@@ -16,7 +16,7 @@ use Rattle.lethe_pins.specs.Held.{Held}
 use Rattle.lethe_pins.specs.declared.pin.Pin.{Pin}
 use Rattle.lethe_core.specs.Asked.{Makes, behind, counted, stopped_by, written_by}
 use Rattle.lethe_core.specs.Merges.{AreOutcomesBy, Outcome, due_choice, pages_of}
-use Rattle.lethe_core.specs.Pinned.{AreKept, AreNamed}
+use Rattle.lethe_core.specs.Pinned.{AreKept, AreNamed, AreRetiredFrom}
 use Rattle.lethe_core.specs.Reasons.{HasReason, IsUnreadable}
 use Rattle.lethe_core.specs.Running.{Holds}
 use Rattle.lethe_core.specs.StandsNow.{StandsNow}
@@ -75,6 +75,12 @@ returns-in_err-ripen_store-clause-partly g c =
     let why = c.in_err-ripen_store.field-0.0 in
     let refusal : c.from_residual.result ≡ Err why = search rules in
     subst (λ (r : Result (Option Certificate) Refused). IfErr r (IsDoneInPart g.D.Disk.tells (IsTickedInPart c.args.to) (view_of c.args.core.now) (view_of c.ripen_store.new.core))) (sym refusal) c.in_err-ripen_store.ensures.partly
+
+pub returns-in_err-ripen_store-clause-drawn : goal.returns-in_err-ripen_store-clause-drawn
+returns-in_err-ripen_store-clause-drawn g c = c.in_err-ripen_store.ensures.keeps.drawn
+
+pub returns-in_err-ripen_store-clause-retired : goal.returns-in_err-ripen_store-clause-retired
+returns-in_err-ripen_store-clause-retired g c = c.in_err-ripen_store.ensures.keeps.retired
 
 pub returns-in_err-ripen_store-clause-pins : goal.returns-in_err-ripen_store-clause-pins
 returns-in_err-ripen_store-clause-pins g c = c.in_err-ripen_store.ensures.keeps.pins
@@ -159,11 +165,11 @@ returns-clause-partly g c =
     let old = view_of c.args.core.now in
     let mid = c.ripen_store.new.core in
     let new = c.move_clock.new.core in
-    let same = jobs_same mid new c.move_clock.ensures.begun c.move_clock.ensures.flight (λ i. (c.move_clock.ensures.retired i).items) c.move_clock.ensures.pins in
+    let same = jobs_same mid new c.move_clock.ensures.begun c.move_clock.ensures.flight c.move_clock.ensures.pins in
     IfErr-weaker c.move_clock.result (IsUndone g.D.Disk.tells (view_of mid) (view_of new)) (IsDoneInPart g.D.Disk.tells (IsTickedInPart c.args.to) old (view_of new))
     (λ why undone none told s holds.
     let is = c.in_ok-ripen_store.ensures.done told s holds in
-    (is.1, inr (is.0, is.2, is.3, all_some (due_choice c.args.to) is.0 is.2 is.1 is.4), before_holds g.D.Disk.tells told (view_of mid) (view_of new) is.1 same (undone none) is.5)) c.move_clock.ensures.undone
+    (is.1, inr (is.0, is.2, is.3, all_some (due_choice c.args.to) is.0 is.2 is.1 is.4), before_holds g.D.Disk.tells told (view_of mid) (view_of new) is.1 same c.move_clock.ensures.pins (undone none) is.5)) c.move_clock.ensures.undone
 
 pub returns-clause-pins : goal.returns-clause-pins
 returns-clause-pins g c = subst (λ (held : Held). c.move_clock.new.core.pins ≡ held) c.in_ok-ripen_store.ensures.keeps.pins c.move_clock.ensures.pins
@@ -178,9 +184,9 @@ returns-clause-pinned g c = λ told.
     kept_twice old.pins.pins d mid end (keeps.pinned told) (subst (λ (held : Held). AreKept held.pins mid end) keeps.pins (c.move_clock.ensures.pinned told))
 
 pub returns-clause-named : goal.returns-clause-named
-returns-clause-named g c = λ told.
+returns-clause-named g c =
     if_ok c.move_clock.result (AreNamed c.move_clock.new.core.pins.pins c.move_clock.new.core.retired.items) (subst (λ (held : Held). AreNamed held.pins c.move_clock.new.core.retired.items) (sym c.move_clock.ensures.pins)
-    (subst (λ (names : List Name). AreNamed c.ripen_store.new.core.pins.pins names) (λ i. (sym c.move_clock.ensures.retired i).items) (c.in_ok-ripen_store.ensures.named told)))
+    (subst (λ (names : List Name). AreNamed c.ripen_store.new.core.pins.pins names) (λ i. (sym c.move_clock.ensures.retired i).items) c.in_ok-ripen_store.ensures.named))
 
 pub returns-clause-why : goal.returns-clause-why
 returns-clause-why g c =
@@ -195,6 +201,14 @@ returns-clause-why g c =
     (λ why undone reason. inl (reason_behind Short Short old mid.state c.args.before new.faults keeps.stopped keeps.count (λ short. short) why
     (reason_told (max_place ≤ mid.state.next) Short mid.state c.args.before new.faults why (λ none short. let next = (undone none).state.next in inr (inl (omega (arith, short, next)))) reason)))
     c.move_clock.ensures.undone c.move_clock.ensures.why
+
+pub returns-clause-retired : goal.returns-clause-retired
+returns-clause-retired g c =
+    let old = view_of c.args.core.now in
+    subst (λ (names : List Name). AreRetiredFrom old.pins.pins old.retired names) (λ i. (sym c.move_clock.ensures.retired i).items) c.in_ok-ripen_store.ensures.keeps.retired
+
+pub returns-clause-drawn : goal.returns-clause-drawn
+returns-clause-drawn g c = let early = c.in_ok-ripen_store.ensures.keeps.drawn in let late = c.move_clock.ensures.drawn in omega (arith, early, late)
 
 pub returns-clause-numbers : goal.returns-clause-numbers
 returns-clause-numbers g c = λ told. let early = c.in_ok-ripen_store.ensures.keeps.numbers told in let late = c.move_clock.ensures.numbers told in omega (arith, early, late)

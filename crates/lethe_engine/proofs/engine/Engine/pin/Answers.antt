@@ -27,9 +27,9 @@ pub returns-clause-near : goal.returns-clause-near
 returns-clause-near g c = λ told config opened h stands.
     let old = view_of c.args.self.now.core in
     let s = stands.now.stored in
-    IfOk-weaker c.pin_now.result (λ snapshot. IsLimit s.manifest.config.threshold (layout_of s) snapshot.limit)
-    (λ snapshot. (old.state.manifest.clock < snapshot.limit) × (snapshot.limit ≤ config.threshold + old.state.manifest.clock))
-    (λ snapshot is. limit_near config h old stands.now snapshot.limit is) (c.pin_now.ensures.limit s stands.now.remembers)
+    IfOk-weaker c.pin_now.result (λ snapshot. IsLimit s.manifest.config.threshold (layout_of s) snapshot.pin.limit)
+    (λ snapshot. (old.state.manifest.clock < snapshot.pin.limit) × (snapshot.pin.limit ≤ config.threshold + old.state.manifest.clock))
+    (λ snapshot is. limit_near config h old stands.now snapshot.pin.limit is) (c.pin_now.ensures.limit s stands.now.remembers)
 
 pub returns-clause-same : goal.returns-clause-same
 returns-clause-same g c = ap (λ core. record c.args.self.now { core = core }) c.pin_now.ensures.same

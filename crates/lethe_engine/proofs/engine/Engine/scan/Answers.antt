@@ -3,7 +3,8 @@ use Rattle.std.specs.Option.{option_copied}
 use Rattle.lethe_base.specs.declared.call.Call.TheVariants.{Work}
 use Rattle.lethe_core.specs.Asked.{Serves, failure_of}
 use Rattle.lethe_core.specs.View.{view_of}
-use Rattle.lethe_engine.proofs.Answering.{damage_told, err_told, fault_told, files_sound, listed_between, stored_sound}
+use Rattle.lethe_read.proofs.Refusals.{damage_told, err_told, fault_told}
+use Rattle.lethe_engine.proofs.Answering.{files_sound, listed_between, stored_sound}
 use Rattle.lethe_engine.proofs.Calls.{itself_answers, refused_is_none, served_is_none}
 use Rattle.lethe_engine.proofs.Reasons.{no_failure_of_read}
 use Rattle.lethe_engine.proofs.engine.Engine.scan.Goals as goal

@@ -1,13 +1,30 @@
+use Rattle.std.proofs.Common.{Err, ap, sym, ◌∙◌, subst}
 use Rattle.std.specs.Option.{option_copied}
-use Rattle.lethe_flush.proofs.Results.{ok_weaker}
+use Rattle.lethe_read.specs.Refusals.{IsReadRefusal}
+use Rattle.lethe_read.proofs.Refusals.{damage_told, err_told, fault_told, told_reads}
 use Rattle.lethe_snapshot.proofs.Answering.{files_sound, listed_between}
 use Rattle.lethe_snapshot.proofs.snapshot.Snapshot.scan.Goals as goal
 
-pub returns-clause-answer : goal.returns-clause-answer
-returns-clause-answer g c = λ told h is.
+pub returns-in-Ok-clause-answer : goal.returns-in-Ok-clause-answer
+returns-in-Ok-clause-answer g c = λ told h is.
     let snapshot = c.args.self.now in
-    ok_weaker c.scan.result _ _ (c.scan.ensures.listed told (files_sound snapshot h is)) (λ pairs given.
-    listed_between snapshot h is (option_copied c.as_ref-frozen.result) c.items.result.now c.as_ref-frozen.ensures.value c.items.ensures c.args.lo.now c.args.hi.now pairs.items given)
+    listed_between snapshot h is (option_copied c.as_ref-frozen.result) c.items.result.now c.as_ref-frozen.ensures.value c.items.ensures c.args.lo.now c.args.hi.now c.in-Ok.pairs.items
+    (c.in-Ok.ensures.listed told (files_sound snapshot h is))
 
-pub returns-clause-undamaged : goal.returns-clause-undamaged
-returns-clause-undamaged g c = λ told h is name damaged. c.scan.ensures.undamaged told (files_sound c.args.self.now h is) name damaged
+pub returns-in-Err-clause-undamaged : goal.returns-in-Err-clause-undamaged
+returns-in-Err-clause-undamaged g c = λ told h is name damaged.
+    c.in-Err.ensures.undamaged told (files_sound c.args.self.now h is) name (ap Err (damage_told c.in-Err.why name (sym c.told_as.ensures ∙ err_told damaged)))
+
+pub returns-in-Err-clause-damaged : goal.returns-in-Err-clause-damaged
+returns-in-Err-clause-damaged g c = λ name damaged. c.in-Err.ensures.damaged name (ap Err (damage_told c.in-Err.why name (sym c.told_as.ensures ∙ err_told damaged)))
+
+pub returns-in-Err-clause-fault : goal.returns-in-Err-clause-fault
+returns-in-Err-clause-fault g c = λ before after is.
+    c.in-Err.ensures.cause.fault before after (ap Err (fault_told c.in-Err.why before after (sym c.told_as.ensures ∙ err_told is)))
+
+pub returns-in-Err-clause-can_fail : goal.returns-in-Err-clause-can_fail
+returns-in-Err-clause-can_fail g c = λ before after is.
+    c.in-Err.ensures.can_fail (before, after, ap Err (fault_told c.in-Err.why before after (sym c.told_as.ensures ∙ err_told is)))
+
+pub returns-in-Err-clause-why : goal.returns-in-Err-clause-why
+returns-in-Err-clause-why g c = subst IsReadRefusal (sym c.told_as.ensures) (told_reads c.in-Err.why)
