@@ -15,6 +15,7 @@ use Rattle.lethe_fade.specs.declared.plan.Plan.{Plan}
 use Rattle.lethe_manifest.specs.Manifests as manifests
 use Rattle.lethe_manifest.specs.declared.manifest.Cited.{Cited}
 use Rattle.lethe_manifest.specs.declared.manifest.Manifest.{Manifest}
+use Rattle.lethe_state.specs.Left.{left_with}
 use Rattle.lethe_state.specs.Writable.{IsWritable}
 use Rattle.lethe_state.specs.declared.state.State.{State}
 use Rattle.lethe_stored.specs.Files.{Parts, StoredFile}
@@ -25,7 +26,7 @@ use Rattle.lethe_job.specs.Works.{IsBegunIn, IsNamedBy, IsPlanIn, PlainTask}
 use Rattle.lethe_job.specs.declared.filed.Filed.{Filed}
 use Rattle.lethe_job.proofs.Named.{chosen_in_store, chosen_is_named, due_in_store, due_is_named}
 use Rattle.lethe_job.proofs.Shaped.{shape_same}
-use Rattle.lethe_core.specs.Merges.{IsBegunBy, chosen_by, picked, room_choice}
+use Rattle.lethe_core.specs.Merges.{IsBegunBy, IsPickedIn, chosen_by, picked, room_choice}
 use Rattle.lethe_core.specs.Running.{Holds}
 use Rattle.lethe_core.specs.View.{View}
 use Rattle.lethe_core.specs.declared.choosing.Choice.{Choice}
@@ -85,6 +86,15 @@ module _ {D Page Port : Type 0} {disk : Ghosts D Page Port} (by : Choice) (m : M
       let named = picked_named by m.config (map plain_file files) low erases m.clock plan limits (sym (is ∙ picked_in)) in
       named_among m.config.levels (map plain_file again) erases others plan.file plan.erase known
       (subst (λ l. IsNamedBy m.config.levels (map plain_file l) erases plan.file plan.erase) (sym same) named)
+
+  -- on any disk
+  pub picked_here : (view : View) → m ≡ view.state.manifest → AllZip (IsCitedAs view.levels) view.state.manifest.files (map plain_file files) → erases ≡ left_with view.state
+      → (plan : Option Plan) → plan ≡ picked by m.config shape m.clock → IsPickedIn by view plan
+  picked_here view m_is cited left plan is = record {
+    shape = shape;
+    of = record { files = map plain_file files; cited = cited; is = shape_is ∙ (λ i. shape_of (fields_is i).levels (map plain_file (seen_is i)) (left i)) ∙ ap (λ (m : Manifest). shape_of m.config.levels (map plain_file files) (left_with view.state)) m_is };
+    is = sym (is ∙ ap (λ (m : Manifest). picked by m.config shape m.clock) m_is);
+  }
 
   module _ (view : View) (m_is : m ≡ view.state.manifest) (s : Stored) (holds : Holds view s) (files_are : map plain_file files ≡ s.files) where
     manifest_is : m ≡ s.manifest

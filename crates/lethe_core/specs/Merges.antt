@@ -18,8 +18,9 @@ use Rattle.lethe_pins.specs.Held.{is_named}
 use Rattle.lethe_pins.specs.declared.pin.Pin.{Pin}
 use Rattle.lethe_install.specs.Outcomes.{IsInstalled}
 use Rattle.lethe_install.specs.declared.steps.Installation.{Installation}
+use Rattle.lethe_state.specs.Left.{left_with}
 use Rattle.lethe_state.specs.Room.{HasRoom, IsFrozen, IsUnfrozen}
-use Rattle.lethe_job.specs.Shapes.{due_shape}
+use Rattle.lethe_job.specs.Shapes.{due_shape, shape_of}
 use Rattle.lethe_job.specs.MadeOf.{numbers_in}
 use Rattle.lethe_job.specs.Tasks.{IsCitedAs, counted_in}
 use Rattle.lethe_job.specs.Works.{AreOutputs, IsPlanned, PlainTask, inputs_in, plan_of, reads_of}
@@ -46,6 +47,23 @@ room_choice = chosen_by Room
 -- that of the jobs that are due at a time
 abbrev pub due_choice : ℕ → Stored → Option Plan
 due_choice to = chosen_by (DueAt to)
+
+-- The shape of a store as it has it in memory: the files that its manifest cites, as their readers have them, level by level and each with the place up to which it is swept, and
+-- the erases that are still to be done.
+pub record IsShapeIn (view : View) (shape : Shape) : Type 0 where
+  pub files : List StoredFile
+  pub cited : AllZip (IsCitedAs view.levels) view.state.manifest.files files
+  pub is : shape ≡ shape_of view.state.manifest.config.levels files (left_with view.state)
+
+-- the plan that is picked for that shape at the clock
+pub record IsPickedIn (by : Choice) (view : View) (plan : Option Plan) : Type 0 where
+  pub shape : Shape
+  pub of : IsShapeIn view shape
+  pub is : picked by view.state.manifest.config shape view.state.manifest.clock ≡ plan
+
+-- that of the next job that makes room
+abbrev pub IsNextPlan : View → Option Plan → Type 0
+IsNextPlan = IsPickedIn Room
 
 -- no job is chosen
 abbrev pub HasNoMergeBy : (Stored → Option Plan) → Stored → Type 0

@@ -1,10 +1,10 @@
 //! What a store has.
-ghost use Rattle.std.specs.Prelude.{◌≡◌, ◌≤◌, ◌-◌, None, Ok, length, slice_index, All, Any, IfOk, IfSome, IsTrue};
+ghost use Rattle.std.specs.Prelude.{◌≡◌, ◌≤◌, ◌-◌, None, Ok, Some, length, slice_index, All, Any, IfOk, IfSome, IsTrue};
 ghost use Rattle.lethe_base.specs.Limits.{max_place, max_time};
 ghost use Rattle.lethe_stored.specs.Stored.{Stored};
 ghost use Rattle.lethe_state.specs.Writable.{IsWritable};
-ghost use Rattle.lethe_job.specs.Works.{IsInLevels, applied_upto, erases_of, plain_task};
-ghost use Rattle.lethe_core.specs.Merges.{HasNoMergeBy, IsBegunBy, IsTaskOf, chosen_by};
+ghost use Rattle.lethe_job.specs.Works.{IsInLevels, applied_upto, erases_of, plain_task, plan_of};
+ghost use Rattle.lethe_core.specs.Merges.{HasNoMergeBy, IsBegunBy, IsPickedIn, IsTaskOf, chosen_by};
 ghost use Rattle.lethe_core.specs.Running.{Holds};
 ghost use Rattle.lethe_core.specs.View.{view_of};
 
@@ -45,6 +45,8 @@ impl<D: Disk> Core<D> {
         ensures some { (s : Stored) → Holds (view_of self.now) s → IfOk result (λ found. IfSome found (λ task. IsBegunBy (chosen_by choice) s (plain_task task))) }
 
         // On any disk:
+        ensures unpicked { result ≡ Ok None → IsPickedIn choice (view_of self.now) None }
+        ensures picked { IfOk result (λ found. IfSome found (λ task. IsPickedIn choice (view_of self.now) (Some (plan_of (plain_task task))))) }
         ensures levels { IfOk result (λ found. IfSome found (λ task. IsInLevels self.now.state.manifest.config.levels (plain_task task))) }
         ensures upto { IfOk result (λ found. IfSome found (λ task. applied_upto (plain_task task) ≤ max_place)) }
         ensures times { IfOk result (λ found. IfSome found (λ task. All (λ erase. erase.time ≤ max_time) (erases_of (plain_task task)))) }

@@ -12,10 +12,10 @@ ghost use Rattle.lethe_file.specs.Agreement.{page_name};
 ghost use Rattle.lethe_stored.specs.Stored.{Stored};
 ghost use Rattle.lethe_install.specs.Outcomes.{AreFirst, IsInstalled};
 ghost use Rattle.lethe_job.specs.MadeOf.{numbers_in};
-ghost use Rattle.lethe_job.specs.Works.{IsBegunIn, plain_task};
+ghost use Rattle.lethe_job.specs.Works.{IsBegunIn, plain_task, plan_of};
 ghost use Rattle.lethe_core.specs.Jobs.{AreOutputsOf, IsAtWork, with_begun, with_page};
 ghost use Rattle.lethe_core.specs.Keeps.{Keeps, MayStep};
-ghost use Rattle.lethe_core.specs.Merges.{HasNoMerge};
+ghost use Rattle.lethe_core.specs.Merges.{HasNoMerge, IsNextPlan};
 ghost use Rattle.lethe_core.specs.Pinned.{AreNamed};
 ghost use Rattle.lethe_core.specs.Reasons.{HasReason};
 ghost use Rattle.lethe_core.specs.Running.{Holds, IsSound};
@@ -47,6 +47,10 @@ impl<D: Disk> Core<D> {
         ensures held { D.tells → (s : Stored) → Holds (view_of self.old) s → Holds (view_of self.new) s }
         ensures none { (s : Stored) → Holds (view_of self.old) s → result ≡ Ok None → HasNoMerge s }
         ensures begun { (s : Stored) → Holds (view_of self.old) s → IfOk result (λ found. IfSome found (λ job. IsBegunIn s (plain_task job.task.value))) }
+
+        // On any disk:
+        ensures unpicked { result ≡ Ok None → IsNextPlan (view_of self.old) None }
+        ensures picked { IfOk result (λ found. IfSome found (λ job. IsNextPlan (view_of self.old) (Some (plan_of (plain_task job.task.value))))) }
         ensures works { IfOk result (λ found. IfSome found (IsAtWork D.tells (view_of self.new))) }
         ensures unmade { IfOk result (λ found. IfSome found (λ job. job.made ≡ None)) }
         ensures port { IfOk result (λ found. IfSome found (λ job. (D.fetches job.port ≡ 0) × (D.port_faults job.port ≡ 0))) }

@@ -7,7 +7,7 @@ ghost use Rattle.lethe_base.specs.declared.name.Name.{Name};
 ghost use Rattle.lethe_base.specs.declared.refused.Refused.TheVariants.{Stopped, Exhausted, Damaged};
 ghost use Rattle.lethe_segment.specs.declared.record.Record.{Record};
 ghost use Rattle.lethe_stored.specs.Stored.{Stored, appended};
-ghost use Rattle.lethe_state.specs.Records.{headers_in};
+ghost use Rattle.lethe_state.specs.Records.{HasEntered, IsDeleteRecord, erase_record, headers_in, put_record};
 ghost use Rattle.lethe_state.specs.Room.{HasRoom};
 ghost use Rattle.lethe_core.specs.Asked.{Makes};
 ghost use Rattle.lethe_core.specs.Changes.{erase_over, put_over, with_record};
@@ -57,6 +57,10 @@ impl<D: Disk> Engine<D> {
             × Holds (view_of self.new.core) (appended t (put_over t key dkey value)) × (D.fetches port.new ≡ D.fetches port.old + pages_of outcomes)
             × AreRetiredBehind outcomes (view_of self.old.core).pins.pins (view_of self.old.core).retired (view_of self.new.core).retired) }
 
+        // Where there was room, the record was entered into what is in memory, on any disk.
+        ensures entered { self.old.core.state.records < self.old.core.state.manifest.config.buffer
+            → OnOk result (HasEntered (put_record self.old.core.state key dkey value) self.old.core.state self.new.core.state) }
+
         // Where there was room, the active segment is the one object that changes, and nothing is fetched.
         ensures room { D.tells → (s : Stored) → Holds (view_of self.old.core) s → HasRoom s
             → OnOk result (((D.seen self.new.core.disk).directory ≡ with_record (D.seen self.old.core.disk).directory s (put_over s key dkey value))
@@ -104,6 +108,10 @@ impl<D: Disk> Engine<D> {
             × Holds (view_of self.new.core) (appended t (erase_over t range)) × (D.fetches port.new ≡ D.fetches port.old + pages_of outcomes)
             × AreRetiredBehind outcomes (view_of self.old.core).pins.pins (view_of self.old.core).retired (view_of self.new.core).retired) }
 
+        // Where there was room, the record was entered into what is in memory, on any disk.
+        ensures entered { self.old.core.state.records < self.old.core.state.manifest.config.buffer
+            → OnOk result (HasEntered (erase_record self.old.core.state range) self.old.core.state self.new.core.state) }
+
         // Where there was room, the active segment is the one object that changes, and nothing is fetched.
         ensures room { D.tells → (s : Stored) → Holds (view_of self.old.core) s → HasRoom s
             → OnOk result (((D.seen self.new.core.disk).directory ≡ with_record (D.seen self.old.core.disk).directory s (erase_over s range))
@@ -148,6 +156,11 @@ impl<D: Disk> Engine<D> {
             × IsDeleteOver t (headers_in (view_of self.new.core).levels) key next
             × Holds (view_of self.new.core) (appended t next) × (D.fetches port.new ≡ D.fetches port.old + pages_of outcomes)
             × AreRetiredBehind outcomes (view_of self.old.core).pins.pins (view_of self.old.core).retired (view_of self.new.core).retired) }
+
+        // Where there was room, the record was entered into what is in memory, on any disk.
+        ensures entered { self.old.core.state.records < self.old.core.state.manifest.config.buffer
+            → OnOk result ((next : Record) × IsDeleteRecord self.old.core.state (headers_in (view_of self.old.core).levels) key next
+            × HasEntered next self.old.core.state self.new.core.state) }
 
         // Where there was room, the active segment is the one object that changes, and nothing is fetched.
         ensures room { D.tells → (s : Stored) → Holds (view_of self.old.core) s → HasRoom s

@@ -11,11 +11,12 @@ ghost use Rattle.lethe_file.specs.Agreement.{page_name};
 ghost use Rattle.lethe_stored.specs.Stored.{Stored};
 ghost use Rattle.lethe_job.specs.Jobs.{next_bytes};
 ghost use Rattle.lethe_job.specs.MadeOf.{pages_of};
-ghost use Rattle.lethe_job.specs.Works.{IsBegunIn, plain_task};
+ghost use Rattle.lethe_job.specs.Works.{IsBegunIn, plain_task, plan_of};
 ghost use Rattle.lethe_core.specs.Pinned.{AreNamed};
 ghost use Rattle.lethe_core.specs.Asked.{Serves};
 ghost use Rattle.lethe_install.specs.Outcomes.{AreFirst, IsInstalled};
 ghost use Rattle.lethe_core.specs.Jobs.{IsAtWork, IsInFlight, IsWhole, with_page};
+ghost use Rattle.lethe_core.specs.Merges.{IsNextPlan};
 ghost use Rattle.lethe_core.specs.Running.{Holds, IsSound};
 ghost use Rattle.lethe_core.specs.View.{face_of, view_of};
 ghost use Rattle.lethe_engine.specs.Answers.{Answers};
@@ -42,6 +43,10 @@ impl<D: Disk> Engine<D> {
 
         // The job has the next number and the present round, and has made and fetched nothing. Its task is that of the first merge or sweep that is due.
         ensures begun { D.tells → (s : Stored) → Holds (view_of self.old.core) s → IfOk result (λ job. IsBegunIn s (plain_task job.task.value) × Holds (view_of self.new.core) s) }
+
+        // On any disk: the plan of its task is that of the shape in memory, and `NothingDue` where no job is in flight says that there is none.
+        ensures picked { IfOk result (λ job. IsNextPlan (view_of self.old.core) (Some (plan_of (plain_task job.task.value)))) }
+        ensures unpicked { self.old.core.flight ≡ None → IsErrOf result refused.NothingDue → IsNextPlan (view_of self.old.core) None }
         ensures number { IfOk result (λ job. (job.number.value ≡ self.old.core.begun.jobs) × (job.round ≡ self.old.core.begun.rounds)) }
         ensures works { IfOk result (IsAtWork D.tells (view_of self.new.core)) }
         ensures unmade { IfOk result (λ job. (job.made ≡ None) × (D.fetches job.port ≡ 0) × (D.port_faults job.port ≡ 0)) }

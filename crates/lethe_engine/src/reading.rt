@@ -5,13 +5,15 @@ ghost use Rattle.std.specs.Result.{result_err};
 ghost use Rattle.lethe_base.specs.Counts.{Rose};
 ghost use Rattle.lethe_base.specs.History.{History, after};
 ghost use Rattle.lethe_base.specs.Keys.{key_cmp};
+ghost use Rattle.lethe_base.specs.Matching.{answer_under};
 ghost use Rattle.lethe_base.specs.Read.{Get, Scan, Found, answer};
 ghost use Rattle.lethe_base.specs.declared.call.Call.TheVariants.{Work};
 ghost use Rattle.lethe_base.specs.declared.config.Fields.{Fields};
 ghost use Rattle.lethe_base.specs.declared.name.Name.{Name};
 ghost use Rattle.lethe_base.specs.declared.refused.Refused.TheVariants.{ReadFault, Damaged};
 ghost use Rattle.lethe_version.specs.Probing.{bound};
-ghost use Rattle.lethe_read.specs.Found.{IsBacked, frozen_entries};
+ghost use Rattle.lethe_read.specs.Between.{AreListedBetween};
+ghost use Rattle.lethe_read.specs.Found.{IsBacked, buffered_entry, frozen_entries};
 ghost use Rattle.lethe_read.specs.Refusals.{IsReadRefusal};
 ghost use Rattle.lethe_version.specs.Versions.{IsDamagedInAny, IsDamagedOf, IsVouchedBy, files_of, pages_between};
 ghost use Rattle.lethe_engine.specs.Reads.{is_in_memory, listed};
@@ -51,6 +53,10 @@ impl<D: Disk> Engine<D> {
             + (if is_in_memory key.now self.now.core.state then 0 else sum_by (λ file. bound key.now file.header) (files_of self.now.core.version)) }
         ensures later { D.fetches port.old ≤ D.fetches port.new }
         ensures why { IfErr result IsReadRefusal }
+
+        // On any disk, where a buffer has an entry of the key, it is answered from that one, under the pending erases.
+        ensures buffered { IfOk result (λ held. IfSome (buffered_entry key.now self.now.core.state.active.entries (frozen_entries (λ buffer. buffer.entries) self.now.core.state.frozen))
+            (λ entry. held ≡ answer_under self.now.core.state.pending entry)) }
 
         // On any disk what the key has stands in an entry of the key that a buffer has, or for which a line of one of the files vouches by its digest.
         ensures backed { IfOk result (λ held. IfSome held (IsBacked key.now self.now.core.state.active.entries (frozen_entries (λ buffer. buffer.entries) self.now.core.state.frozen)
@@ -97,6 +103,9 @@ impl<D: Disk> Engine<D> {
             → Answers D.tells (Serves Work) (result_err result) (face_of (view_of self.now.core)) (view_of self.now.core) (view_of self.now.core) }
         ensures answer { D.tells → (config : Fields) (h : History) → StandsNow config h (view_of self.now.core)
             → IfOk result (λ pairs. answer (after h) (Scan lo.now hi.now) ≡ listed pairs.items) }
+
+        // On any disk.
+        ensures between { IfOk result (λ pairs. AreListedBetween lo.now hi.now pairs.items) }
 
         // Each page of a tile that meets the range is fetched once, and no other page; nothing is fetched where `lo` isn't below `hi`.
         ensures fetches { is_lt (key_cmp lo.now hi.now) ≡ true → OnOk result (D.fetches port.new ≡ D.fetches port.old + pages_between lo.now hi.now self.now.core.version) }

@@ -5,7 +5,9 @@ ghost use Rattle.lethe_job.specs.Shapes.{due_shape};
 ghost use Rattle.lethe_base.specs.declared.config.Fields.{Fields};
 ghost use Rattle.lethe_header.specs.Facts.{lines_of, tombs_in};
 ghost use Rattle.lethe_stored.specs.Stored.{Stored, layout_of};
+ghost use Rattle.lethe_state.specs.Left.{left_with};
 ghost use Rattle.lethe_state.specs.Remembered.{Remembers};
+ghost use Rattle.lethe_version.specs.Versions.{files_of};
 ghost use Rattle.lethe_engine.specs.Capped.{capped};
 ghost use Rattle.lethe_core.specs.StandsNow.{StandsNow};
 ghost use Rattle.lethe_core.specs.View.{view_of};
@@ -39,6 +41,12 @@ impl<D: Disk> Engine<D> {
         ensures stat { (config : Fields) (h : History) → StandsNow config h (view_of self.now.core)
             → result.clock ≡ (after h).clock }
         ensures shape { (s : Stored) → Remembers s self.now.core.state (view_of self.now.core).levels → IsStatOf (due_shape (layout_of s)) result }
+
+        // On any disk, by what is in memory.
+        ensures clock { result.clock ≡ self.now.core.state.manifest.clock }
+        ensures pending { result.pending ≡ length (left_with self.now.core.state) }
+        ensures files { result.files ≡ capped (length (files_of self.now.core.version)) }
+        ensures tombs { result.tombs ≡ capped (sum_by (λ file. tombs_in (lines_of file.header.tiles)) (files_of self.now.core.version)) }
         ensures pins { result.pins ≡ length self.now.core.pins.pins }
     {
         let mut files: u64 = 0;

@@ -5,6 +5,7 @@ pub mod Buffered
 pub mod Fences
 pub mod Filed
 pub mod Following
+pub mod Listing
 pub mod Nothing
 pub mod Ranges
 pub mod Refusals

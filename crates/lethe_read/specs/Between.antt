@@ -1,7 +1,9 @@
 -- The entries of two buffers and of files between two keys, the first included and the second not.
-use Rattle.std.specs.Prelude.{ℕ, ◌⊎◌, ◌↔◌, IsTrue, List, map, Any, Contains}
+use Rattle.std.specs.Prelude.{◌≡◌, ℕ, ◌⊎◌, ◌↔◌, Bool, true, IsTrue, List, map, All, AllPairs, Any, Contains, Option, Some, None}
+use Rattle.std.specs.Ordering.{is_lt}
+use Rattle.std.specs.declared.cmp.Ordering.TheVariants.{Less}
 use Rattle.lethe_base.specs.History.{Pair}
-use Rattle.lethe_base.specs.Keys.{Bytes}
+use Rattle.lethe_base.specs.Keys.{Bytes, key_cmp}
 use Rattle.lethe_base.specs.Read.{is_between}
 use Rattle.lethe_base.specs.declared.entry.Entry.{Entry}
 
@@ -16,3 +18,13 @@ AreReadBetween lo hi active frozen files entries = (entry : Entry) → Contains 
 -- keys with their delete keys and values, as those of a map
 abbrev pub by_keys : List (Bytes × ℕ × Bytes) → List (Bytes × Pair)
 by_keys pairs = map (λ p. (p.0, (p.1, p.2))) pairs
+
+-- greater than the last one's key, if there is one
+abbrev pub is_behind : Option (Bytes × ℕ × Bytes) → Bytes → Bool
+is_behind None key = true
+is_behind (Some last) key = is_lt (key_cmp last.0 key)
+
+-- Keys with their delete keys and values ascend, each key below those behind it, and all lie from the first up to the second, which is excluded.
+pub record AreListedBetween (lo hi : Bytes) (pairs : List (Bytes × ℕ × Bytes)) : Type 0 where
+  pub ascending : AllPairs (λ pair later. key_cmp pair.0 later.0 ≡ Less) pairs
+  pub within : All (λ pair. IsTrue (is_between lo hi pair.0)) pairs

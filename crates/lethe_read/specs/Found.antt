@@ -7,9 +7,13 @@ use Rattle.lethe_base.specs.declared.entry.Body.TheVariants.{Put}
 use Rattle.lethe_base.specs.declared.entry.Entry.{Entry}
 use Rattle.lethe_version.specs.Newest.{IsNewestIn}
 
+-- the newest entry of a key that a buffer has: the active one's, else the frozen one's
+abbrev pub buffered_entry : Bytes → List Entry → List Entry → Option Entry
+buffered_entry key active frozen = option_or (entry_of key active) (entry_of key frozen)
+
 -- a buffer has an entry of the key
 abbrev pub is_buffered : Bytes → List Entry → List Entry → Bool
-is_buffered key active frozen = is_some (option_or (entry_of key active) (entry_of key frozen))
+is_buffered key active frozen = is_some (buffered_entry key active frozen)
 
 -- the newest entry of a key: the active buffer's, else the frozen one's, else that of the files
 abbrev pub first_found : Bytes → List Entry → List Entry → Option Entry → Option Entry

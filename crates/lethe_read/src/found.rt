@@ -10,7 +10,7 @@ ghost use Rattle.lethe_disk.specs.Reads.{HasReadCause, IsFault};
 ghost use Rattle.lethe_disk.specs.declared.cursor.ReadRefused.TheVariants.{Damaged};
 ghost use Rattle.lethe_version.specs.Probing.{bound};
 ghost use Rattle.lethe_version.specs.Versions.{IsDamagedOf, IsSound, IsVouchedBy, entries_of, files_of};
-ghost use Rattle.lethe_read.specs.Found.{IsBacked, IsNewestBelow, first_found, frozen_entries, is_buffered};
+ghost use Rattle.lethe_read.specs.Found.{IsBacked, IsNewestBelow, buffered_entry, first_found, frozen_entries, is_buffered};
 
 use lethe_base::{Body, Entry, Key, Pending, Value};
 use lethe_disk::{Disk, ReadRefused};
@@ -40,7 +40,8 @@ pub fn get<D: Disk, B: Buffer>(
     // Where a page is told as damaged, a fetch was made in this call, since the key may be there, and it is another page.
     ensures damaged { (name : Name) → IsErrOf result (Damaged name) → IsDamagedOf key.now version.now name × (D.fetches port.old < D.fetches port.new) }
 
-    // On any disk.
+    // On any disk. Where a buffer has an entry of the key, it is answered from that one, under the erases.
+    ensures buffered { IfOk result (λ held. IfSome (buffered_entry key.now (B.entries active.now) (frozen_entries B.entries (option_copied frozen.entry))) (λ entry. held ≡ answer_under erases.now entry)) }
     ensures backed { IfOk result (λ held. IfSome held (IsBacked key.now (B.entries active.now) (frozen_entries B.entries (option_copied frozen.entry)) (IsVouchedBy version.now))) }
     ensures undamaged { D.tells → All IsSound (files_of version.now) → (name : Name) → IsErrOf result (Damaged name) → ⊥ }
     ensures cause { HasReadCause (D.port_faults port.old) (D.port_faults port.new) result }

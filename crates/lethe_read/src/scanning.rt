@@ -1,8 +1,9 @@
 //! The pairs of the keys between two.
-ghost use Rattle.std.specs.Prelude.{◌≡◌, ◌+◌, ◌<◌, ◌≤◌, ◌∷◌, [], ◌++◌, Some, true, false, drop, length, map, flat_map, sum_by, List, All, Any, IfOk, OnOk, IsErrOf};
+ghost use Rattle.std.specs.Prelude.{◌≡◌, ◌+◌, ◌-◌, ◌<◌, ◌≤◌, ◌∷◌, [], ◌++◌, Some, true, false, drop, length, map, flat_map, sum_by, List, All, Any, IfOk, OnOk, IsErrOf};
 ghost use Rattle.std.specs.Option.{option_copied};
 ghost use Rattle.std.specs.Ordering.{is_lt};
 ghost use Rattle.lethe_base.specs.Keys.{key_cmp};
+ghost use Rattle.lethe_base.specs.Read.{is_between};
 ghost use Rattle.lethe_base.specs.declared.entry.Entry.{Entry};
 ghost use Rattle.lethe_base.specs.declared.name.Name.{Name};
 ghost use Rattle.lethe_disk.specs.Reads.{HasReadCause, IsFault};
@@ -13,7 +14,7 @@ ghost use Rattle.lethe_header.specs.Facts.{greatest_key, least_key, lines_of};
 ghost use Rattle.lethe_mem.specs.Pairs.{pairs_of};
 ghost use Rattle.lethe_merge.specs.Merge.{merged};
 ghost use Rattle.lethe_version.specs.Versions.{IsDamagedInAny, IsSound, bytes_of, entries_of, files_of, pages_between};
-ghost use Rattle.lethe_read.specs.Between.{AreReadBetween, by_keys};
+ghost use Rattle.lethe_read.specs.Between.{AreListedBetween, AreReadBetween, by_keys, is_behind};
 ghost use Rattle.lethe_read.specs.Found.{frozen_entries};
 ghost use Rattle.lethe_read.specs.Parts.{Adds, Awaits, joins};
 
@@ -44,6 +45,9 @@ pub fn scan<D: Disk, B: Buffer>(
         × AreReadBetween lo.now hi.now (B.entries active.now) (frozen_entries B.entries (option_copied frozen.entry)) (map entries_of (files_of version.now)) entries
         × (by_keys pairs.items ≡ pairs_of (merged entries erases.now true))) }
 
+    // On any disk.
+    ensures between { IfOk result (λ pairs. AreListedBetween lo.now hi.now pairs.items) }
+
     // Each page of a tile that meets the range is fetched once, and no other page; nothing is fetched where `lo` isn't below `hi`.
     ensures fetches { is_lt (key_cmp lo.now hi.now) ≡ true → OnOk result (D.fetches port.new ≡ D.fetches port.old + pages_between lo.now hi.now version.now) }
     ensures at_most { is_lt (key_cmp lo.now hi.now) ≡ true → D.fetches port.new ≤ D.fetches port.old + pages_between lo.now hi.now version.now }
@@ -62,7 +66,7 @@ pub fn scan<D: Disk, B: Buffer>(
     let parts = parts_of::<D, B>(alloc, active, frozen, version, lo, hi)?;
     let erases = erases.to_vec(alloc)?;
     let mut merger = Merger::<D, Part<FileCursor<D>>>::new(alloc, parts, erases, true)?;
-    pairs_from::<D, Merger<D, Part<FileCursor<D>>>>(alloc, port, &mut merger)
+    pairs_from::<D, Merger<D, Part<FileCursor<D>>>>(alloc, port, &mut merger, lo, hi)
 }
 
 /// The parts of the store, each with its entries of the keys from `lo` up to `hi`, which is excluded.
@@ -160,14 +164,17 @@ fn ends_below<D: Disk>(file: &FileView<D>, other: &FileView<D>) -> bool
     tiles[tiles.len() - 1].hi.cmp(&others[0].lo) == Ordering::Less
 }
 
-/// The pairs of the puts that a cursor gives.
+/// The pairs of the puts that a cursor gives, whose keys ascend and lie from `lo` up to `hi`, which is excluded.
 fn pairs_from<D: Disk, C: Cursor<D>>(
     alloc: Global,
     port: &mut D::Port,
     cursor: &mut C,
+    lo: &Key,
+    hi: &Key,
 ) -> Result<Vec<(Key, u64, Value)>, ReadRefused>
     requires { C.may_ask cursor.old }
     ensures listed { D.tells → C.sound cursor.old → IfOk result (λ pairs. by_keys pairs.items ≡ pairs_of (C.left cursor.old)) }
+    ensures between { IfOk result (λ pairs. AreListedBetween lo.now hi.now pairs.items) }
     ensures once { OnOk result (D.fetches port.new ≡ D.fetches port.old + C.awaits cursor.old) }
     ensures at_most { D.fetches port.new ≤ D.fetches port.old + C.awaits cursor.old }
     ensures damaged { (name : Name) → IsErrOf result (Damaged name) → C.damages cursor.old name × (D.fetches port.old < D.fetches port.new) }
@@ -182,7 +189,7 @@ fn pairs_from<D: Disk, C: Cursor<D>>(
     let mut pairs = Vec::new(alloc);
     for _turn in 0..u64::MAX {
         match cursor.next(alloc, port) {
-            Ok(Some(entry)) => push_pair(&mut pairs, entry)?,
+            Ok(Some(entry)) => push_pair(&mut pairs, entry, lo, hi)?,
             Ok(None) => return Ok(pairs),
             Err(why) => return Err(why.since(before)),
         }
@@ -191,12 +198,40 @@ fn pairs_from<D: Disk, C: Cursor<D>>(
 }
 
 /// Adds the pair of an entry that is a put.
-fn push_pair(pairs: &mut Vec<(Key, u64, Value)>, entry: Entry) -> Result<(), NoMemory>
-    ensures { OnOk result (by_keys pairs.new.items ≡ by_keys pairs.old.items ++ pairs_of (entry ∷ [])) }
+fn push_pair(
+    pairs: &mut Vec<(Key, u64, Value)>,
+    entry: Entry,
+    lo: &Key,
+    hi: &Key,
+) -> Result<(), NoMemory>
+    requires { AreListedBetween lo.now hi.now pairs.old.items }
+    ensures pairs { OnOk result (by_keys pairs.new.items ≡ by_keys pairs.old.items ++ pairs_of (entry ∷ [])) }
+    ensures between { AreListedBetween lo.now hi.now pairs.new.items }
 {
     let Entry { key, body, .. } = entry;
     if let Body::Put { dkey, value } = body {
+        // The pages of a file on a disk that tells nothing might have any keys, so where one doesn't come next it gives up as one that has no memory.
+        if !is_between(lo, hi, &key) || !is_behind(pairs.last(), &key) {
+            return Err(NoMemory);
+        }
         pairs.push((key, dkey, value))?;
     }
     Ok(())
+}
+
+/// Whether the key lies from `lo` up to `hi`, which is excluded.
+fn is_between(lo: &Key, hi: &Key, key: &Key) -> bool
+    ensures { result ≡ is_between lo.now hi.now key.now }
+{
+    lo <= key && key < hi
+}
+
+/// Whether the key is greater than the last one's, if there is one.
+fn is_behind(last: Option<&(Key, u64, Value)>, key: &Key) -> bool
+    ensures { result ≡ is_behind (option_copied last.entry) key.now }
+{
+    match last {
+        Some((last, _, _)) => last < key,
+        None => true,
+    }
 }

@@ -4,11 +4,12 @@ ghost use Rattle.std.specs.Ordering.{is_lt};
 ghost use Rattle.lethe_base.specs.Counts.{Rose};
 ghost use Rattle.lethe_base.specs.Keys.{key_cmp};
 ghost use Rattle.lethe_base.specs.History.{History, after};
+ghost use Rattle.lethe_base.specs.Matching.{answer_under};
 ghost use Rattle.lethe_base.specs.Read.{Get, Scan, Found, Listed, answer};
 ghost use Rattle.lethe_base.specs.declared.name.Name.{Name};
 ghost use Rattle.lethe_base.specs.declared.refused.Refused.TheVariants.{Damaged, ReadFault};
-ghost use Rattle.lethe_read.specs.Between.{by_keys};
-ghost use Rattle.lethe_read.specs.Found.{IsBacked, frozen_entries, is_buffered};
+ghost use Rattle.lethe_read.specs.Between.{AreListedBetween, by_keys};
+ghost use Rattle.lethe_read.specs.Found.{IsBacked, buffered_entry, frozen_entries, is_buffered};
 ghost use Rattle.lethe_read.specs.Refusals.{IsReadRefusal};
 ghost use Rattle.lethe_version.specs.Probing.{bound};
 ghost use Rattle.lethe_version.specs.Versions.{IsDamagedInAny, IsDamagedOf, IsVouchedBy, files_of, pages_between};
@@ -72,7 +73,9 @@ impl<D: Disk> Snapshot<D> {
         // Where a page is told as damaged, a fetch was made in this call, since the key may be there, and it is another page.
         ensures damaged { (name : Name) → IsErrOf result (Damaged name) → IsDamagedOf key.now self.now.version name × (D.fetches port.old < D.fetches port.new) }
 
-        // On any disk.
+        // On any disk. Where a buffer had an entry of the key, it is answered from that one, under the erases that were pending.
+        ensures buffered { IfOk result (λ held. IfSome (buffered_entry key.now self.now.active.entries (frozen_entries (λ buffer. buffer.entries) self.now.frozen))
+            (λ entry. held ≡ answer_under self.now.pending entry)) }
         ensures backed { IfOk result (λ held. IfSome held (IsBacked key.now self.now.active.entries (frozen_entries (λ buffer. buffer.entries) self.now.frozen) (IsVouchedBy self.now.version))) }
         ensures undamaged { D.tells → (h : History) → IsOf h self.now → (name : Name) → IsErrOf result (Damaged name) → ⊥ }
         ensures why { IfErr result IsReadRefusal }
@@ -118,6 +121,9 @@ impl<D: Disk> Snapshot<D> {
         ensures fault { (before after : ℕ) → IsErrOf result (ReadFault before after) → (before ≡ D.port_faults port.old) × (after ≡ D.port_faults port.new) × Rose before after }
         ensures can_fail { (before after : ℕ) → IsErrOf result (ReadFault before after) → D.ports_fail }
         ensures faults { D.port_faults port.old ≤ D.port_faults port.new }
+
+        // On any disk.
+        ensures between { IfOk result (λ pairs. AreListedBetween lo.now hi.now pairs.items) }
 
         // Each page of a tile that meets the range is fetched once, and no other page; nothing is fetched where `lo` isn't below `hi`.
         ensures fetches { is_lt (key_cmp lo.now hi.now) ≡ true → OnOk result (D.fetches port.new ≡ D.fetches port.old + pages_between lo.now hi.now self.now.version) }

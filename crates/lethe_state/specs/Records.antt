@@ -111,6 +111,10 @@ pub record IsNext (next : Record) (end : ℕ) (old new : State) : Type 0 where
   pub stopped : new.stopped ≡ old.stopped
   pub drawn : new.next ≡ old.next
 
+-- with the record entered, wherever the active segment ends then
+abbrev pub HasEntered : Record → State → State → Type 0
+HasEntered next old new = (end : ℕ) × IsNext next end old new
+
 -- with the next place's change or work failed, and all else as it was
 abbrev pub halted : State → State
 halted state = record state { count = state.count + 1; stopped = Some (state.count + 1) }

@@ -47,7 +47,8 @@ impl State {
 
     /// How many of the pending erases are still to be done.
     pub fn left_count(&self) -> u64
-        ensures { (s : Stored) (levels : prelude.List (prelude.List Parts)) → Remembers s self.now levels → result ≡ length (left_erases (layout_of s)) }
+        ensures is { result ≡ length (left_with self.now) }
+        ensures left { (s : Stored) (levels : prelude.List (prelude.List Parts)) → Remembers s self.now levels → result ≡ length (left_erases (layout_of s)) }
     {
         let done = self.done_upto(self.manifest.files.items());
         let left = self

@@ -1,7 +1,7 @@
 use Rattle.std.proofs.Common.{◌≡◌, ◌+◌, ◌++◌, ◌≤◌}
 use Rattle.lethe_base.specs.declared.name.Name.{Name}
 use Rattle.lethe_mem.specs.Pairs.{pairs_of}
-use Rattle.lethe_read.specs.Between.{by_keys}
+use Rattle.lethe_read.specs.Between.{AreListedBetween, by_keys}
 use Rattle.lethe_read.proofs.scanning.pairs_from.Given as goal
 
 -- the pairs so far and those that the cursor has still to give are all
@@ -10,6 +10,7 @@ invariant-loop-turn g l = record {
   again : g.C.Cursor.may_ask l.cursor;
   sound : g.C.Cursor.sound l.fn.cursor → g.C.Cursor.sound l.cursor;
   so_far : g.D.Disk.tells → g.C.Cursor.sound l.fn.cursor → by_keys l.pairs.items ++ pairs_of (g.C.Cursor.left l.cursor) ≡ pairs_of (g.C.Cursor.left l.fn.cursor);
+  between : AreListedBetween l.lo l.hi l.pairs.items;
   awaited : g.D.Disk.fetches l.port + g.C.Cursor.awaits l.cursor ≡ g.D.Disk.fetches l.fn.port + g.C.Cursor.awaits l.fn.cursor;
   fewer : (name : Name) → g.C.Cursor.damages l.cursor name → g.C.Cursor.damages l.fn.cursor name;
   fetched : g.D.Disk.fetches l.fn.port ≤ g.D.Disk.fetches l.port;

@@ -17,6 +17,7 @@ use Rattle.lethe_version.specs.Versions.{entries_of, files_of}
 use Rattle.lethe_read.specs.Between.{AreReadBetween, by_keys}
 use Rattle.lethe_read.specs.Found.{frozen_entries}
 use Rattle.lethe_read.proofs.Filed.{part_left}
+use Rattle.lethe_read.proofs.Listing.{none_listed}
 use Rattle.lethe_read.proofs.Nothing.{nothing_merged, nothing_read}
 use Rattle.lethe_read.proofs.scanning.scan.Goals as goal
 
@@ -68,3 +69,6 @@ pub returns-clause-damaged : goal.returns-clause-damaged
 returns-clause-damaged g c = λ name e.
     let told = c.pairs_from.ensures.damaged name e in
     (c.in_ok-parts.ensures.damages name (c.in_ok-merger.ensures.damages name told.0), told.1)
+
+pub returns-then-ge-clause-between : goal.returns-then-ge-clause-between
+returns-then-ge-clause-between g c = none_listed c.args.lo.now c.args.hi.now c.new.result.items c.new.ensures.items

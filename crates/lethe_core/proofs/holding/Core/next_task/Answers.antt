@@ -1,14 +1,15 @@
-use Rattle.std.proofs.Common.{◌≡◌, ◌≤◌, ◌∙◌, List, Some, ap, arith, map, rules, subst, sym}
+use Rattle.std.proofs.Common.{◌≡◌, ◌≤◌, ◌∙◌, List, None, Some, ap, arith, map, rules, subst, sym}
 use Rattle.std.specs.Prelude.{All, IsTrue}
 use Rattle.std.specs.List.{AllZip}
+use Rattle.lethe_fade.specs.declared.plan.Plan.{Plan}
 use Rattle.lethe_manifest.specs.declared.manifest.Cited.{Cited}
 use Rattle.lethe_manifest.specs.declared.manifest.Manifest.{Manifest}
 use Rattle.lethe_stored.specs.Files.{StoredFile}
 use Rattle.lethe_job.specs.Tasks.{IsCitedAs, counted_in, plain_file}
 use Rattle.lethe_job.specs.Works.{IsInLevels, inputs_in, plain_task}
-use Rattle.lethe_core.specs.Merges.{chosen_by}
+use Rattle.lethe_core.specs.Merges.{IsPickedIn, chosen_by}
 use Rattle.lethe_core.specs.View.{view_of}
-use Rattle.lethe_core.proofs.Chosen.{all_placed, all_timed, cited_low, picked_chosen, picked_in_store, plan_named, stored_in}
+use Rattle.lethe_core.proofs.Chosen.{all_placed, all_timed, cited_low, picked_chosen, picked_here, picked_in_store, plan_named, stored_in}
 use Rattle.lethe_core.proofs.holding.Core.next_task.Goals as goal
 
 pub returns-in_default-clause-none : goal.returns-in_default-clause-none
@@ -18,6 +19,14 @@ returns-in_default-clause-none g c = λ s holds ended.
     let left = c.left_erases.ensures.left s (view_of c.args.self.now).levels holds.remembers in
     sym (c.in_default.ensures ∙ picked_chosen c.args.choice c.manifest-manifest.result.now c.left_erases.result.now c.fields.result.now c.fields.ensures.fields c.in_ok-files.files.items c.deref.result.now
     c.deref.ensures.value c.in_ok-shape.shape c.in_ok-shape.ensures.shape (view_of c.args.self.now) c.manifest-manifest.ensures s holds files left)
+
+pub returns-in_default-clause-unpicked : goal.returns-in_default-clause-unpicked
+returns-in_default-clause-unpicked g c = λ ended.
+    let view = view_of c.args.self.now in
+    let same = c.items.ensures ∙ ap (λ (m : Manifest). m.files) c.manifest-manifest.ensures in
+    let cited = subst (λ (cited : List Cited). AllZip (IsCitedAs view.levels) cited (map plain_file c.in_ok-files.files.items)) same c.in_ok-files.ensures.each in
+    picked_here c.args.choice c.manifest-manifest.result.now c.left_erases.result.now c.fields.result.now c.fields.ensures.fields c.in_ok-files.files.items c.deref.result.now
+    c.deref.ensures.value c.in_ok-shape.shape c.in_ok-shape.ensures.shape view c.manifest-manifest.ensures cited c.left_erases.ensures.is None c.in_default.ensures
 
 pub task_of-requires-clause-named : goal.task_of-requires-clause-named
 task_of-requires-clause-named g c κs within =
@@ -48,6 +57,15 @@ returns-clause-some g c = λ s holds.
       is_chosen = plan ∙ ap Some (sym c.in_ok-task.ensures.plan);
       planned = c.in_ok-task.ensures.planned s store (picked_in_store c.args.choice s holds.remembers.coherent c.in-Some.plan plan);
     }
+
+pub returns-clause-picked : goal.returns-clause-picked
+returns-clause-picked g c =
+    let view = view_of c.args.self.now in
+    let same = c.items.ensures ∙ ap (λ (m : Manifest). m.files) c.manifest-manifest.ensures in
+    let cited = subst (λ (cited : List Cited). AllZip (IsCitedAs view.levels) cited (map plain_file c.in_ok-files.files.items)) same c.in_ok-files.ensures.each in
+    subst (λ (plan : Plan). IsPickedIn c.args.choice view (Some plan)) (sym c.in_ok-task.ensures.plan)
+    (picked_here c.args.choice c.manifest-manifest.result.now c.left_erases.result.now c.fields.result.now c.fields.ensures.fields c.in_ok-files.files.items c.deref.result.now
+    c.deref.ensures.value c.in_ok-shape.shape c.in_ok-shape.ensures.shape view c.manifest-manifest.ensures cited c.left_erases.ensures.is (Some c.in-Some.plan) c.in-Some.ensures)
 
 pub returns-clause-levels : goal.returns-clause-levels
 returns-clause-levels g c = subst (λ (m : Manifest). IsInLevels m.config.levels (plain_task c.in_ok-task.task)) c.manifest-manifest.ensures c.in_ok-task.ensures.levels

@@ -3,9 +3,10 @@ use Rattle.std.specs.Prelude.{IfSome}
 use Rattle.lethe_base.specs.declared.call.Call.TheVariants.{Work}
 use Rattle.lethe_base.specs.declared.refused.Refused.TheVariants.{NothingDue, NoMemory, Stopped}
 use Rattle.lethe_advance.specs.Shown.{parts_by_level}
-use Rattle.lethe_job.specs.Works.{IsBegunIn, plain_task}
+use Rattle.lethe_job.specs.Works.{IsBegunIn, plain_task, plan_of}
 use Rattle.lethe_core.specs.Asked.{Serves}
 use Rattle.lethe_core.specs.Jobs.{with_begun}
+use Rattle.lethe_core.specs.Merges.{IsNextPlan}
 use Rattle.lethe_core.specs.View.{face_of, view_of}
 use Rattle.lethe_engine.specs.Answers.{Answers}
 use Rattle.lethe_engine.proofs.Calls.{idle_answers, itself_answers, refused_is_none, served_is_none}
@@ -46,3 +47,12 @@ returns-in-Err-clause-answers g c =
 
 pub returns-in-Ok-Some-clause-begun : goal.returns-in-Ok-Some-clause-begun
 returns-in-Ok-Some-clause-begun g c = λ told s holds. (subst (λ found. IfSome found (λ job. IsBegunIn s (plain_task job.task.value))) c.in-Ok-Some.field-0-is (c.in-Ok-Some.ensures.begun s holds), c.in-Ok-Some.ensures.held told s holds)
+
+pub returns-in-Ok-Some-clause-picked : goal.returns-in-Ok-Some-clause-picked
+returns-in-Ok-Some-clause-picked g c =
+    subst (λ found. IfSome found (λ job. IsNextPlan (view_of c.args.self.now.core) (Some (plan_of (plain_task job.task.value))))) c.in-Ok-Some.field-0-is c.in-Ok-Some.ensures.picked
+
+pub returns-in-Ok-None-clause-unpicked : goal.returns-in-Ok-None-clause-unpicked
+returns-in-Ok-None-clause-unpicked g c = λ free nothing.
+    let none : c.in-Ok-None.field-0 ≡ None = cc in
+    c.in-Ok-None.ensures.unpicked (ap Ok none)

@@ -6,7 +6,7 @@ use Rattle.lethe_base.specs.declared.call.Call.TheVariants as call
 use Rattle.lethe_base.specs.declared.refused.Refused.{Refused}
 use Rattle.lethe_disk.proofs.Quieting.{on_ok, on_ok_both}
 use Rattle.lethe_advance.specs.Shown.{parts_by_level}
-use Rattle.lethe_state.specs.Records.{headers_in}
+use Rattle.lethe_state.specs.Records.{HasEntered, IsDeleteRecord, headers_in}
 use Rattle.lethe_core.specs.Asked.{Makes}
 use Rattle.lethe_core.specs.Changes.{with_record}
 use Rattle.lethe_core.specs.Merges.{AreRetiredBehind}
@@ -123,6 +123,15 @@ returns-clause-room g c = λ told s holds has.
       calls ∙ ap (λ core. (g.D.Disk.seen core.disk).moment + 4) same,
       room.2,
     ))
+
+pub returns-clause-entered : goal.returns-clause-entered
+returns-clause-entered g c = λ has.
+    let same = (c.in_ok-make_room.ensures.room has).1 in
+    let next = c.delete_record-next.result in
+    let new = c.record.new.self.state in
+    on_ok c.record.result _ _ c.record.ensures.entered (λ entered.
+    let both = subst (λ core. IsDeleteRecord core.state (headers_in (parts_by_level core.version)) c.args.key next × HasEntered next core.state new) same (c.delete_record-next.ensures.is, entered) in
+    (next, both.0, both.1))
 
 pub returns-in_err-make_room-clause-pins : goal.returns-in_err-make_room-clause-pins
 returns-in_err-make_room-clause-pins g c = c.in_err-make_room.ensures.keeps.pins

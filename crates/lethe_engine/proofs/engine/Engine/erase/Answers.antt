@@ -6,6 +6,7 @@ use Rattle.lethe_base.specs.declared.call.Call.TheVariants as call
 use Rattle.lethe_base.specs.declared.refused.Refused.{Refused}
 use Rattle.lethe_disk.proofs.Quieting.{on_ok, on_ok_both}
 use Rattle.lethe_stored.specs.Stored.{appended}
+use Rattle.lethe_state.specs.Records.{HasEntered, erase_record}
 use Rattle.lethe_core.specs.Asked.{Makes}
 use Rattle.lethe_core.specs.Changes.{with_record}
 use Rattle.lethe_core.specs.Merges.{AreRetiredBehind}
@@ -108,6 +109,14 @@ returns-clause-room g c = λ told s holds has.
       calls ∙ ap (λ core. (g.D.Disk.seen core.disk).moment + 4) same,
       room.2,
     ))
+
+pub returns-clause-entered : goal.returns-clause-entered
+returns-clause-entered g c = λ has.
+    let same = (c.in_ok-make_room.ensures.room has).1 in
+    let mid = c.make_room.new.self.state in
+    let new = c.record.new.self.state in
+    on_ok c.record.result _ _ c.record.ensures.entered
+    (λ entered. subst (λ core. HasEntered (erase_record core.state c.args.range) core.state new) same (subst (λ next. HasEntered next mid new) c.erase_record-next.ensures.is entered))
 
 pub returns-in_err-make_room-clause-pins : goal.returns-in_err-make_room-clause-pins
 returns-in_err-make_room-clause-pins g c = c.in_err-make_room.ensures.keeps.pins

@@ -37,6 +37,18 @@ pub returns-clause-stat : goal.returns-clause-stat
 returns-clause-stat g c = λ config h stands.
     ap (λ (m : Manifest). m.clock) (c.manifest.ensures ∙ stands.remembers.manifest) ∙ stands.stands.clock ∙ ap (λ (st : State). st.clock) (after_without h)
 
+pub returns-clause-files : goal.returns-clause-files
+returns-clause-files g c =
+    let levels = levels_of c.args.self.now.core.version in
+    let all : length levels ≤ c.loop-level.level = omega (arith, c.loop-level-test.false, c.levels-level-end.ensures) in
+    c.loop-level.invariant.files ∙ ap (λ l. capped (length (flat_map (λ files. files) l))) (take_all c.loop-level.level levels all)
+
+pub returns-clause-tombs : goal.returns-clause-tombs
+returns-clause-tombs g c =
+    let levels = levels_of c.args.self.now.core.version in
+    let all : length levels ≤ c.loop-level.level = omega (arith, c.loop-level-test.false, c.levels-level-end.ensures) in
+    c.loop-level.invariant.tombs ∙ ap (λ l. capped (sum_by (λ file. tombs_in (lines_of file.header.tiles)) (flat_map (λ files. files) l))) (take_all c.loop-level.level levels all)
+
 pub returns-clause-shape : goal.returns-clause-shape
 returns-clause-shape g c = λ s is.
     let version = c.args.self.now.core.version in
@@ -44,7 +56,7 @@ returns-clause-shape g c = λ s is.
     let all : length levels ≤ c.loop-level.level = omega (arith, c.loop-level-test.false, c.levels-level-end.ensures) in
     let whole = take_all c.loop-level.level levels all in
     record {
-      pending = c.left_count.ensures s (parts_by_level version) is;
+      pending = c.left_count.ensures.left s (parts_by_level version) is;
       files = c.loop-level.invariant.files ∙ ap (λ l. capped (length (flat_map (λ files. files) l))) whole ∙ ap capped (count_files version s is.coherent is.files);
       tombs = c.loop-level.invariant.tombs ∙ ap (λ l. capped (sum_by (λ file. tombs_in (lines_of file.header.tiles)) (flat_map (λ files. files) l))) whole
           ∙ ap capped (count_tombs version s is.coherent is.files);

@@ -1,8 +1,10 @@
-use Rattle.std.proofs.Common.{Option, Err, ap, sym, ◌∙◌, subst}
+use Rattle.std.proofs.Common.{◌≡◌, List, Option, Err, ap, sym, ◌∙◌, subst}
 use Rattle.std.specs.Prelude.{IfSome}
 use Rattle.std.specs.Option.{option_copied}
+use Rattle.lethe_base.specs.Matching.{answer_under}
+use Rattle.lethe_base.specs.declared.pending.Pending.{Pending}
 use Rattle.lethe_mem.specs.Buffered.{Buffered}
-use Rattle.lethe_read.specs.Found.{IsBacked, frozen_entries}
+use Rattle.lethe_read.specs.Found.{IsBacked, buffered_entry, frozen_entries}
 use Rattle.lethe_read.specs.Refusals.{IsReadRefusal}
 use Rattle.lethe_read.proofs.Refusals.{damage_told, err_told, fault_told, told_reads}
 use Rattle.lethe_version.specs.Versions.{IsVouchedBy}
@@ -19,6 +21,13 @@ returns-in-Ok-clause-backed g c =
     let snapshot = c.args.self.now in
     subst (λ (frozen : Option Buffered). IfSome c.in-Ok.held (IsBacked c.args.key.now snapshot.active.entries (frozen_entries (λ (buffer : Buffered). buffer.entries) frozen) (IsVouchedBy snapshot.version)))
     c.as_ref.ensures.value c.in-Ok.ensures.backed
+
+pub returns-in-Ok-clause-buffered : goal.returns-in-Ok-clause-buffered
+returns-in-Ok-clause-buffered g c =
+    let snapshot = c.args.self.now in
+    let first = λ (frozen : Option Buffered). buffered_entry c.args.key.now snapshot.active.entries (frozen_entries (λ (buffer : Buffered). buffer.entries) frozen) in
+    subst (λ (erases : List Pending). IfSome (first snapshot.frozen) (λ entry. c.in-Ok.held ≡ answer_under erases entry)) c.items-erases.ensures
+    (subst (λ (frozen : Option Buffered). IfSome (first frozen) (λ entry. c.in-Ok.held ≡ answer_under c.items-erases.result.now entry)) c.as_ref.ensures.value c.in-Ok.ensures.buffered)
 
 pub returns-in-Err-clause-undamaged : goal.returns-in-Err-clause-undamaged
 returns-in-Err-clause-undamaged g c = λ told h is name damaged.
