@@ -37,4 +37,3 @@ pub mod Roomed
 pub mod Chosen
 pub mod SweptPuts
 pub mod Copying
-pub mod Faces

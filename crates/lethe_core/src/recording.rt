@@ -11,7 +11,7 @@ ghost use Rattle.lethe_stored.specs.Kept.{IsFor};
 ghost use Rattle.lethe_stored.specs.Left.{IsKeptOr, is_work};
 ghost use Rattle.lethe_stored.specs.Numbers.{GoesFrom};
 ghost use Rattle.lethe_stored.specs.Stored.{Stored, appended};
-ghost use Rattle.lethe_state.specs.Records.{IsNext};
+ghost use Rattle.lethe_state.specs.Records.{HasEntered};
 ghost use Rattle.lethe_core.specs.Asked.{Makes, behind, counted, stopped_by, written_by};
 ghost use Rattle.lethe_core.specs.Changes.{with_record};
 ghost use Rattle.lethe_core.specs.Keeps.{MayStep};
@@ -52,7 +52,7 @@ impl<D: Disk> Core<D> {
         ensures written { D.tells → (s : Stored) → Holds (view_of self.old) s
             → OnOk result (Holds (view_of self.new) (appended s next) × ((D.seen self.new.disk).directory ≡ with_record (D.seen self.old.disk).directory s next)) }
         // The buffers have it, on any disk.
-        ensures entered { OnOk result ((end : ℕ) × IsNext next end self.old.state self.new.state) }
+        ensures entered { OnOk result (HasEntered next self.old.state self.new.state) }
         ensures version { self.new.version ≡ self.old.version }
         ensures retired { self.new.retired ≡ self.old.retired }
         ensures flight { self.new.flight ≡ self.old.flight }

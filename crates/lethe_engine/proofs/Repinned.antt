@@ -22,7 +22,7 @@ use Rattle.lethe_core.specs.Running.{IsSound}
 use Rattle.lethe_core.specs.StandsNow.{StandsNow}
 use Rattle.lethe_core.specs.View.{View, face_of, view_of}
 use Rattle.lethe_core.specs.declared.holding.Core.{Core}
-use Rattle.lethe_core.proofs.Faces.{pinned_face_is}
+use Rattle.lethe_core.proofs.Pinned.{pinned_face_is}
 use Rattle.lethe_engine.specs.Answers.{Answers}
 use Rattle.lethe_engine.specs.Pins.{pinned_face}
 use Rattle.lethe_engine.proofs.Calls.{IsNoChange, idle_answers, idle_itself, refused_is_none, served_is_none}

@@ -7,7 +7,7 @@ use Rattle.lethe_core.specs.Running.{Holds}
 use Rattle.lethe_core.specs.View.{View, view_of}
 use Rattle.lethe_row.specs.declared.asking.Asked.TheVariants as asked
 use Rattle.lethe_changes.specs.Changes.{IsMadeAlone, point_of}
-use Rattle.lethe_changes.proofs.Making.{alone_of}
+use Rattle.lethe_changes.proofs.Rounds.{alone_of}
 use Rattle.lethe_changes.proofs.changes.change_one.Goals as goal
 
 pub returns-in-Put-clause-written : goal.returns-in-Put-clause-written

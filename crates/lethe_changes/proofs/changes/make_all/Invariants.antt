@@ -2,7 +2,8 @@ use Rattle.std.proofs.Common.{◌≡◌, ◌≤◌, List, length}
 use Rattle.lethe_core.specs.View.{view_of}
 use Rattle.lethe_row.specs.declared.asking.Asked.{Asked}
 use Rattle.lethe_changes.specs.Changes.{HaveRoom}
-use Rattle.lethe_changes.proofs.Making.{AreRounds, IsFresh, IsMade}
+use Rattle.lethe_changes.proofs.Making.{IsFresh, IsMade}
+use Rattle.lethe_changes.proofs.Rounds.{AreRounds}
 use Rattle.lethe_changes.proofs.changes.make_all.Given as goal
 
 -- the first changes were made, of which there is none yet where there is room for all

@@ -2,7 +2,7 @@ use Rattle.std.proofs.Common.{◌≡◌, None, sym, ap, ◌∙◌, subst}
 use Rattle.lethe_base.specs.declared.call.Call.TheVariants.{Work}
 use Rattle.lethe_core.specs.Asked.{Serves}
 use Rattle.lethe_core.specs.View.{view_of}
-use Rattle.lethe_core.proofs.Faces.{released_face_is}
+use Rattle.lethe_core.proofs.Pinned.{released_face_is}
 use Rattle.lethe_engine.specs.Answers.{Answers}
 use Rattle.lethe_engine.proofs.Calls.{served_is_none}
 use Rattle.lethe_engine.proofs.Repinned.{repinned_answers}
