@@ -1,5 +1,5 @@
 //! Reading entries one after another, and why that is refused.
-ghost use Rattle.std.specs.Prelude.{◌≡◌, ◌≤◌, ◌<◌, ◌+◌, ℕ, List, None, Ok, IfOk, OnOk, IsErrOf};
+ghost use Rattle.std.specs.Prelude.{◌≡◌, ◌≤◌, ◌<◌, ◌+◌, ℕ, List, None, Ok, IfOk, IfSome, OnOk, IsErrOf};
 ghost use Rattle.lethe_base.specs.Entries.{IsAscending};
 ghost use Rattle.lethe_base.specs.declared.entry.Entry.{Entry};
 ghost use Rattle.lethe_base.specs.declared.name.Name.{Name};
@@ -81,12 +81,19 @@ pub trait Cursor<D: Disk> {
     /// The names that it may tell as damaged: those of pages that are still to be fetched and whose bytes are another page's.
     ghost damages: { Self → Name → Type 0 };
 
+    /// The entries that it may give, on any disk.
+    ghost gives: { Self → Entry → Type 0 };
+
     /// The next entry, and None at the end.
     fn next(&mut self, alloc: Global, port: &mut D::Port) -> Result<Option<Entry>, ReadRefused>
         requires { may_ask self.old }
         ensures given { D.tells → sound self.old → IfOk result (λ next. IsNext next (left self.old) (left self.new)) }
         ensures again { OnOk result (may_ask self.new) }
         ensures still_sound { sound self.old → OnOk result (sound self.new) }
+
+        // On any disk.
+        ensures among { IfOk result (λ next. IfSome next (gives self.old)) }
+        ensures no_more { OnOk result ((entry : Entry) → gives self.new entry → gives self.old entry) }
 
         // It makes the fetches that were awaited, each once.
         ensures once { OnOk result (D.fetches port.new + awaits self.new ≡ D.fetches port.old + awaits self.old) }

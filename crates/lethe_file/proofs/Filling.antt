@@ -15,11 +15,12 @@ use Rattle.lethe_header.specs.declared.header.TileLine.{TileLine}
 use Rattle.lethe_tile.proofs.Orders.{HasLowerKey, all_left, all_right, ascending_from_pairs, pairs_append, pairs_from_ascending}
 use Rattle.lethe_file.specs.Agreement.{FileAgrees, entries_in}
 use Rattle.lethe_file.specs.Between.{AreBetween, numbers_between}
-use Rattle.lethe_file.specs.Damage.{IsDamagedAmong, IsDamagedIn}
+use Rattle.lethe_file.specs.Damage.{IsDamagedAmong, IsDamagedIn, IsVouched, IsVouchedIn}
 use Rattle.lethe_file.specs.Waiting.{IsSound, IsWritten, Waiting, awaited, left_of, of_waiting, tiles_between, waiting, waits_in}
 use Rattle.lethe_file.specs.declared.holding.HeldPage.{HeldPage}
 use Rattle.lethe_file.proofs.Damaged.{any_first, any_left, any_right, between_damage, any_reverse}
 use Rattle.lethe_file.proofs.Ranges.{are_between, between_numbers, between_written}
+use Rattle.lethe_file.proofs.Vouching.{between_vouch}
 
 -- ---- a cursor that is made
 
@@ -44,6 +45,10 @@ module _ (lo : Bytes) (hi : Option Bytes) (tiles : List TileLine) (pages : List 
   pub made_damage : (tells : Type 0) (name : Name) → Any (Any (IsDamagedIn tells name)) waits → IsDamagedAmong tells (lines_of tiles) pages name
   made_damage tells name some =
       between_damage tells name lo hi tiles pages (subst (λ (ts : List (List Waiting)). Any (Any (IsDamagedIn tells name)) ts) waits_are (any_reverse (Any (IsDamagedIn tells name)) waits some))
+
+  pub made_vouched : (entry : Entry) → Any (Any (IsVouchedIn entry)) waits → IsVouched (lines_of tiles) entry
+  made_vouched entry some =
+      between_vouch entry lo hi tiles pages (subst (λ (ts : List (List Waiting)). Any (Any (IsVouchedIn entry)) ts) waits_are (any_reverse (Any (IsVouchedIn entry)) waits some))
 
 -- ---- a cursor that fetches
 

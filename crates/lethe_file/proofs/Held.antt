@@ -1,9 +1,9 @@
 -- Pages that are held, and what was collected of them.
-use Rattle.std.proofs.Common.{◌≡◌, ℕ, ◌+◌, ◌<◌, ◌≤◌, Bool, true, false, cond, List, [], ◌∷◌, ◌++◌, length, get_or, take, drop, map, All, Option, reverse, refl, sym, ap, subst, ◌∙◌, arith, append_assoc, length-append}
-use Rattle.std.specs.Prelude.{filter, flat_map}
+use Rattle.std.proofs.Common.{◌≡◌, ℕ, ◌+◌, ◌<◌, ◌≤◌, Bool, true, false, cond, List, [], ◌∷◌, ◌++◌, length, get_or, take, drop, map, All, Option, reverse, inl, inr, refl, sym, ap, subst, ◌∙◌, arith, append_assoc, length-append}
+use Rattle.std.specs.Prelude.{Any, Contains, filter, flat_map}
 use Rattle.std.proofs.lemmas.List.{append-nil, drop-map, drop_all, drop_more, get_or-map, length-drop, length-map, length-take, map-append, reverse-append, reverse-reverse, take-map, take_more}
 use Rattle.std.proofs.lemmas.List.Concat.{flat_map-append}
-use Rattle.std.proofs.lemmas.List.Elements.{filter-append}
+use Rattle.std.proofs.lemmas.List.Elements.{Contains-append_cases, filter-append}
 use Rattle.lethe_base.specs.Keys.{Bytes}
 use Rattle.lethe_base.specs.declared.entry.Entry.{Entry}
 use Rattle.lethe_header.specs.Facts.{lines_of}
@@ -12,9 +12,12 @@ use Rattle.lethe_header.specs.declared.header.TileLine.{TileLine}
 use Rattle.lethe_page.specs.Pages.{page_bytes}
 use Rattle.lethe_file.specs.Agreement.{IsChecked, check_of, entries_in}
 use Rattle.lethe_file.specs.Between.{is_in, meets}
+use Rattle.lethe_file.specs.Damage.{IsVouchedIn}
 use Rattle.lethe_file.specs.Waiting.{IsWritten, Waiting, tiles_between, waiting, waits_for, waits_in}
 use Rattle.lethe_file.specs.declared.holding.HeldPage.{HeldPage}
+use Rattle.lethe_file.proofs.Joined.{from_filter}
 use Rattle.lethe_file.proofs.Pages.{same_entries}
+use Rattle.lethe_file.proofs.Vouching.{held_vouches}
 
 -- ---- making a cursor
 
@@ -118,6 +121,7 @@ pub record IsCollected {P : Type 0} (bytes_of : P → List ℕ) (tells : Type 0)
   pub risen : old_faults ≤ faults
   pub counted : fetches ≡ old_fetches + place
   pub given : tells → all ≡ filter (λ entry. is_in lo hi entry.key) (flat_map (λ page. entries_in page.bytes) (waits_in bytes_of (take place pages)))
+  pub vouched : (entry : Entry) → Contains all entry → Any (IsVouchedIn entry) (waits_in bytes_of pages)
 
 pub collected_more : {P : Type 0} (bytes_of : P → List ℕ) (tells : Type 0) (lo : Bytes) (hi : Option Bytes) (pages : List (HeldPage P)) (place : ℕ) (all kept entries : List Entry) (f0 f1 f2 p0 p1 p2 : ℕ) (held : HeldPage P)
     → IsCollected bytes_of tells lo hi pages place all f0 f1 p0 p1 → place < length pages → held ≡ get_or pages place held → f2 ≡ f1 + 1 → p1 ≤ p2
@@ -142,6 +146,12 @@ collected_more {P} bytes_of tells lo hi pages place all kept entries f0 f1 f2 p0
       ∙ ap (λ (es : List Entry). filter in_range (flat_map each front) ++ filter in_range es) last
       ∙ ap (λ (es : List Entry). es ++ filter in_range entries) (sym (before.given told))
       ∙ ap (λ (es : List Entry). all ++ es) (sym kept_is));
+  vouched = λ entry has. elim (Contains-append_cases all kept entry has) [
+    | inl earlier ↦ before.vouched entry earlier
+    | inr here ↦
+        let among = (from_filter (λ (entry : Entry). is_in lo hi entry.key) entries entry (subst (λ es. Contains es entry) kept_is here)).0 in
+        held_vouches bytes_of pages place held entry inside held_is (record { entries = entries; page = checked; among = among })
+  ];
 }
 
 -- the page at a place is the one that its line tells of

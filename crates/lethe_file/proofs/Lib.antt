@@ -11,3 +11,4 @@ pub mod Joined
 pub mod Ranges
 pub mod Held
 pub mod Filling
+pub mod Vouching

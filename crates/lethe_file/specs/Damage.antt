@@ -1,5 +1,5 @@
 -- Pages that are told as damaged, and what a file vouches for on any disk.
-use Rattle.std.specs.Prelude.{◌≡◌, ℕ, IsTrue, List, zip, Any, Contains}
+use Rattle.std.specs.Prelude.{◌≡◌, ◌⊎◌, ℕ, IsTrue, List, zip, Any, Contains}
 use Rattle.lethe_base.specs.Keys.{Bytes}
 use Rattle.lethe_base.specs.declared.entry.Entry.{Entry}
 use Rattle.lethe_base.specs.declared.name.Name.{Name}
@@ -67,3 +67,17 @@ pub record IsVouched (lines : List PageLine) (entry : Entry) : Type 0 where
   pub entries : List Entry
   pub page : IsPage line entries
   pub among : Contains entries entry
+
+-- The entry stands in a page of the class, the count and the digest that are told of.
+pub record StandsIn (check : PageCheck) (entry : Entry) : Type 0 where
+  pub entries : List Entry
+  pub page : IsChecked check entries
+  pub among : Contains entries entry
+
+-- a page that is still to be fetched vouches for the entry
+abbrev pub IsVouchedIn : Entry → Waiting → Type 0
+IsVouchedIn entry page = StandsIn page.check entry
+
+-- what a cursor may give on any disk: what it has of the tile that was fetched last, and entries for which a page vouches that is still to be fetched
+abbrev pub gives_in : {P : Type 0} → (P → List ℕ) → Unread P → Entry → Type 0
+gives_in bytes_of unread entry = Contains unread.entries.items entry ⊎ Any (Any (IsVouchedIn entry)) (waiting bytes_of unread.tiles.items)

@@ -1,5 +1,5 @@
 //! The entries of a tile in the order of their keys.
-ghost use Rattle.std.specs.Prelude.{◌≡◌, ◌+◌, ◌<◌, ◌≤◌, ◌++◌, map, filter, flat_map, length, reverse, All, AllPairs, Any, IfOk, OnOk, IsErrOf, IsPermutation};
+ghost use Rattle.std.specs.Prelude.{◌≡◌, ◌+◌, ◌<◌, ◌≤◌, ◌++◌, map, filter, flat_map, length, reverse, All, AllPairs, Any, Contains, IfOk, OnOk, IsErrOf, IsPermutation};
 ghost use Rattle.lethe_base.specs.Entries.{IsAscending};
 ghost use Rattle.lethe_base.specs.declared.entry.Entry.{Entry};
 ghost use Rattle.lethe_base.specs.declared.name.Name.{Name};
@@ -8,7 +8,7 @@ ghost use Rattle.lethe_disk.specs.declared.cursor.ReadRefused.TheVariants.{Damag
 ghost use Rattle.lethe_tile.specs.Woven.{HaveDistinctKeys};
 ghost use Rattle.lethe_file.specs.Agreement.{entries_in};
 ghost use Rattle.lethe_file.specs.Between.{is_in};
-ghost use Rattle.lethe_file.specs.Damage.{IsDamagedIn};
+ghost use Rattle.lethe_file.specs.Damage.{IsDamagedIn, IsVouchedIn};
 ghost use Rattle.lethe_file.specs.Waiting.{IsWritten, of_waiting, waits_in};
 
 use crate::fetching::fetch_checked;
@@ -43,6 +43,7 @@ fn collect<S: PageSource>(
 ) -> Result<Vec<Entry>, ReadRefused>
     ensures given { S.tells → IfOk result (λ entries. entries.items ≡ filter (λ entry. is_in range.now.lo range.now.hi entry.key)
         (flat_map (λ page. entries_in page.bytes) (waits_in S.page_bytes pages.now))) }
+    ensures vouched { IfOk result (λ entries. (entry : Entry) → Contains entries.items entry → Any (IsVouchedIn entry) (waits_in S.page_bytes pages.now)) }
     ensures fetches { OnOk result (S.fetches port.new ≡ S.fetches port.old + length pages.now) }
     ensures later { S.fetches port.old ≤ S.fetches port.new }
     ensures at_most { S.fetches port.new ≤ S.fetches port.old + length pages.now }
@@ -74,6 +75,7 @@ pub fn fetch_tile<S: PageSource>(
 ) -> Result<Vec<Entry>, ReadRefused>
     ensures given { S.tells → IsAscending (of_waiting range.now.lo range.now.hi (waits_in S.page_bytes pages.now))
         → IfOk result (λ entries. reverse entries.items ≡ of_waiting range.now.lo range.now.hi (waits_in S.page_bytes pages.now)) }
+    ensures vouched { IfOk result (λ entries. (entry : Entry) → Contains entries.items entry → Any (IsVouchedIn entry) (waits_in S.page_bytes pages.now)) }
     ensures fetches { OnOk result (S.fetches port.new ≡ S.fetches port.old + length pages.now) }
     ensures later { S.fetches port.old ≤ S.fetches port.new }
     ensures at_most { S.fetches port.new ≤ S.fetches port.old + length pages.now }

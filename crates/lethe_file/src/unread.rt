@@ -1,9 +1,10 @@
 //! What a cursor has still to give.
 ghost use Rattle.std.specs.Prelude.{◌≡◌, ◌+◌, ◌<◌, ◌≤◌, [], length, OnOk, IsErrOf};
+ghost use Rattle.lethe_base.specs.declared.entry.Entry.{Entry};
 ghost use Rattle.lethe_base.specs.declared.name.Name.{Name};
 ghost use Rattle.lethe_disk.specs.Reads.{HasReadCause, IsFault};
 ghost use Rattle.lethe_disk.specs.declared.cursor.ReadRefused.TheVariants.{Damaged};
-ghost use Rattle.lethe_file.specs.Damage.{damages_in};
+ghost use Rattle.lethe_file.specs.Damage.{damages_in, gives_in};
 ghost use Rattle.lethe_file.specs.Waiting.{IsSoundIn, awaited_in, left_in};
 
 use crate::collecting::fetch_tile;
@@ -38,6 +39,7 @@ pub fn fill<S: PageSource>(
     ensures fetches { S.fetches port.old ≤ S.fetches port.new }
     ensures damaged { (name : Name) → IsErrOf result (Damaged name) → damages_in S.tells S.page_bytes unread.old name × (S.fetches port.old < S.fetches port.new) }
     ensures fewer { (name : Name) → damages_in S.tells S.page_bytes unread.new name → damages_in S.tells S.page_bytes unread.old name }
+    ensures given { (entry : Entry) → gives_in S.page_bytes unread.new entry → gives_in S.page_bytes unread.old entry }
     ensures undamaged { IsSoundIn S.tells S.page_bytes unread.old → (name : Name) → IsErrOf result (Damaged name) → ⊥ }
     ensures cause { HasReadCause (S.port_faults port.old) (S.port_faults port.new) result }
     ensures can_fail { IsFault result → S.ports_fail }

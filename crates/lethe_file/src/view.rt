@@ -158,6 +158,9 @@ impl<D: Disk> FileView<D> {
         ensures damages { IfOk result (λ cursor. (name : Name) → ⟦<FileCursor<D> as Cursor<D>>⟧.damages cursor name
             → IsDamagedAmong D.tells (lines_of self.now.header.tiles) (map (λ page. D.page_bytes page.value) self.now.pages.items) name) }
 
+        // On any disk a line of the file vouches for what it gives.
+        ensures gives { IfOk result (λ cursor. (entry : Entry) → ⟦<FileCursor<D> as Cursor<D>>⟧.gives cursor entry → IsVouched (lines_of self.now.header.tiles) entry) }
+
         // Each page of a tile that meets the range is fetched once, and no other page.
         ensures pages { IfOk result (λ cursor. awaited_in D.page_bytes cursor.unread ≡ numbers_between lo.now (option_copied hi.entry) self.now.header.tiles) }
     {

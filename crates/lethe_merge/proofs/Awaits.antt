@@ -18,7 +18,7 @@ use Rattle.lethe_merge.proofs.Begins.{unasked}
 use Rattle.lethe_merge.proofs.Heads.{IsKnown}
 
 -- an element that is in the list with another one in its place is in the list, or is that one
-any-set-before : {X : Type 0} (P : X → Type 0) (xs : List X) (i : ℕ) (x y : X) → i < length xs → x ≡ get_or xs i x → (P y → P x) → Any P (set xs i y) → Any P xs
+pub any-set-before : {X : Type 0} (P : X → Type 0) (xs : List X) (i : ℕ) (x y : X) → i < length xs → x ≡ get_or xs i x → (P y → P x) → Any P (set xs i y) → Any P xs
 any-set-before {X} P xs i x y within is back (k, z, lt, at, holds) =
     elim (cases_eq k i) [
       | inl place ↦
@@ -27,7 +27,7 @@ any-set-before {X} P xs i x y within is back (k, z, lt, at, holds) =
       | inr differs ↦ (k, z, omega (arith, length-set xs i y, lt), sym (get_or-set_other xs i k y z differs) ∙ at, holds)
     ]
 
-any-map-before : {X Y : Type 0} (f : X → Y) (P : Y → Type 0) (Q : X → Type 0) (xs : List X) → ((x : X) → P (f x) → Q x) → Any P (map f xs) → Any Q xs
+pub any-map-before : {X Y : Type 0} (f : X → Y) (P : Y → Type 0) (Q : X → Type 0) (xs : List X) → ((x : X) → P (f x) → Q x) → Any P (map f xs) → Any Q xs
 any-map-before f P Q [] back (k, z, lt, at, holds) = absurd (omega (arith, lt))
 any-map-before {X} f P Q (x ∷ xs) back (k, z, lt, at, holds) =
     let within : k < length (x ∷ xs) = omega (arith, length-map (x ∷ xs) f, lt) in

@@ -1,6 +1,7 @@
 pub mod Times
 pub mod Joins
 pub mod Merges
+pub mod Gives
 pub mod Heads
 pub mod Fills
 pub mod Steps

@@ -1,10 +1,11 @@
 -- Cursors side by side, each with its next entry where that is known.
-use Rattle.std.specs.Prelude.{◌≡◌, ◌≢◌, ⊤, ℕ, Bool, true, false, List, [], ◌∷◌, ◌++◌, map, filter_map, All, Option, Some, None, if◌then◌else◌}
+use Rattle.std.specs.Prelude.{◌≡◌, ◌≢◌, ◌⊎◌, ⊤, ℕ, Bool, true, false, List, [], ◌∷◌, ◌++◌, map, filter_map, All, Any, Contains, Option, Some, None, if◌then◌else◌}
 use Rattle.std.specs.List.{flat_map}
 use Rattle.std.specs.Ordering.{is_lt}
 use Rattle.std.specs.declared.cmp.Ordering.TheVariants.{Greater}
 use Rattle.lethe_base.specs.Keys.{Bytes, key_cmp, same_key}
 use Rattle.lethe_base.specs.Entries.{IsAscending}
+use Rattle.lethe_base.specs.declared.entry.Body.TheVariants.{Tomb}
 use Rattle.lethe_base.specs.declared.entry.Entry.{Entry}
 use Rattle.lethe_base.specs.declared.pending.Pending.{Pending}
 use Rattle.lethe_cover.specs.Merged.{struck, left_of}
@@ -101,3 +102,18 @@ pub record IsTaken {C : Type 0} (erases : List Pending) (old new : List (Source 
 pub record HasNone {C : Type 0} (old new : List (Source C)) : Type 0 where
   pub none : All (λ source. entry_at source.head ≡ None) old
   pub same : new ≡ old
+
+-- Made of an entry of its key: it has that one's body, or is a tombstone.
+pub record IsMadeOf (from entry : Entry) : Type 0 where
+  pub key : entry.key ≡ from.key
+  pub body : (entry.body ≡ from.body) ⊎ (entry.body ≡ Tomb)
+
+-- what a source may give, by what its cursor may: the entry at hand too
+abbrev pub gives_in : {C : Type 0} → (C → Entry → Type 0) → Entry → Source C → Type 0
+gives_in gives entry source = Contains (entries_at source.head) entry ⊎ gives source.cursor entry
+
+-- What may be given of all sources is made of an entry that one of them may give.
+pub record GivesMerged {C : Type 0} (gives : C → Entry → Type 0) (sources : List (Source C)) (entry : Entry) : Type 0 where
+  pub from : Entry
+  pub made : IsMadeOf from entry
+  pub given : Any (gives_in gives from) sources

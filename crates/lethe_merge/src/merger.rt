@@ -1,9 +1,10 @@
 //! Cursors given out as one.
 ghost use Rattle.std.specs.Prelude.{◌≡◌, sum_by, All, Any, IfOk};
 ghost use Rattle.std.specs.List.{flat_map};
+ghost use Rattle.lethe_base.specs.declared.entry.Entry.{Entry};
 ghost use Rattle.lethe_base.specs.declared.name.Name.{Name};
 ghost use Rattle.lethe_merge.specs.Merge.{merged};
-ghost use Rattle.lethe_merge.specs.Sources.{AreSound, awaits_in, left_merged};
+ghost use Rattle.lethe_merge.specs.Sources.{AreSound, GivesMerged, IsMadeOf, awaits_in, left_merged};
 
 use crate::joining::bare;
 use crate::least::take_least;
@@ -38,6 +39,8 @@ impl<D: Disk, C: Cursor<D> + Drop> Merger<D, C> {
         ensures sound { All C.sound cursors.items → IfOk result (λ merger. ⟦<Merger<D, C> as Cursor<D>>⟧.sound merger) }
         ensures awaits { IfOk result (λ merger. ⟦<Merger<D, C> as Cursor<D>>⟧.awaits merger ≡ sum_by C.awaits cursors.items) }
         ensures damages { IfOk result (λ merger. (name : Name) → ⟦<Merger<D, C> as Cursor<D>>⟧.damages merger name → Any (λ cursor. C.damages cursor name) cursors.items) }
+        ensures gives { IfOk result (λ merger. (entry : Entry) → ⟦<Merger<D, C> as Cursor<D>>⟧.gives merger entry
+            → (from : Entry) × IsMadeOf from entry × Any (λ cursor. C.gives cursor from) cursors.items) }
         ensures left { IfOk result (λ merger. ⟦<Merger<D, C> as Cursor<D>>⟧.left merger ≡ merged (flat_map C.left cursors.items) erases.items alone) }
     {
         let mut sources = Vec::with_capacity(alloc, cursors.len())?;
@@ -66,6 +69,8 @@ impl<D: Disk, C: Cursor<D>> Cursor<D> for Merger<D, C> {
     ghost awaits = { λ m. sum_by (awaits_in C.awaits) m.sources.items };
 
     ghost damages = { λ m name. Any (λ source. C.damages source.cursor name) m.sources.items };
+
+    ghost gives = { λ m. GivesMerged C.gives m.sources.items };
 
     ghost ascends = { λ m asked sound. sound.ascending };
 

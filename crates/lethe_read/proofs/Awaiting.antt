@@ -12,21 +12,21 @@ use Rattle.lethe_read.specs.declared.part.Part.{Part}
 use Rattle.lethe_read.specs.declared.part.Part.TheVariants.{Buffered}
 use Rattle.lethe_read.proofs.Adding.{Any-cases, Any-left, Any-right, only_of}
 
-module _ {C F : Type 0} (awaits : C → ℕ) (damages : C → Name → Type 0) (between : F → ℕ) (IsDamaged : F → Name → Type 0) where
+module _ {C F N : Type 0} (awaits : C → ℕ) (damages : C → N → Type 0) (between : F → ℕ) (IsDamaged : F → N → Type 0) where
   abbrev AwaitsHere : List F → List C → List C → Type 0
   AwaitsHere = Awaits awaits damages between IsDamaged
 
-  abbrev Tells : Name → C → Type 0
+  abbrev Tells : N → C → Type 0
   Tells name part = damages part name
 
-  abbrev IsTold : Name → F → Type 0
+  abbrev IsTold : N → F → Type 0
   IsTold name file = IsDamaged file name
 
   pub awaits_none : (parts : List C) → AwaitsHere [] parts parts
   awaits_none parts = record { count = omega arith; names = λ name any. inl any }
 
   -- a part more that awaits nothing
-  pub awaits_nothing : (files : List F) (old new wider : List C) (part : C) → wider ≡ new ++ part ∷ [] → awaits part ≡ 0 → ((name : Name) → damages part name → ⊥) → AwaitsHere files old new → AwaitsHere files old wider
+  pub awaits_nothing : (files : List F) (old new wider : List C) (part : C) → wider ≡ new ++ part ∷ [] → awaits part ≡ 0 → ((name : N) → damages part name → ⊥) → AwaitsHere files old new → AwaitsHere files old wider
   awaits_nothing files old new wider part is none untold awaited = record {
     count = omega (arith, ap (sum_by awaits) is, sum_by_push awaits new part, none, awaited.count);
     names = λ name any. ⊎_elim (λ before. awaited.names name before) (λ here. absurd (untold name (only_of (Tells name) part here)))
@@ -35,7 +35,7 @@ module _ {C F : Type 0} (awaits : C → ℕ) (damages : C → Name → Type 0) (
 
   -- one file more in front of the others
   pub awaits_file : (file : F) (files : List F) (old mid new : List C) → AwaitsHere files old mid → sum_by awaits new ≡ sum_by awaits mid + between file
-      → ((name : Name) → Any (Tells name) new → Any (Tells name) mid ⊎ IsDamaged file name) → AwaitsHere (file ∷ files) old new
+      → ((name : N) → Any (Tells name) new → Any (Tells name) mid ⊎ IsDamaged file name) → AwaitsHere (file ∷ files) old new
   awaits_file file files old mid new awaited count told = record {
     count = omega (arith, awaited.count, count, sum_by-cons between file files);
     names = λ name any. ⊎_elim
@@ -75,8 +75,8 @@ module _ {C F : Type 0} (awaits : C → ℕ) (damages : C → Name → Type 0) (
   pub all_awaited : (files : List F) (a b : List C) → sum_by awaits a ≡ 0 → AwaitsHere files a b → sum_by awaits b ≡ sum_by between files
   all_awaited files a b none more = omega (arith, none, more.count)
 
-  pub all_told : (files : List F) (a b : List C) → ((name : Name) → Any (λ part. damages part name) a → ⊥) → AwaitsHere files a b
-      → (name : Name) → Any (λ part. damages part name) b → Any (λ file. IsDamaged file name) files
+  pub all_told : (files : List F) (a b : List C) → ((name : N) → Any (λ part. damages part name) a → ⊥) → AwaitsHere files a b
+      → (name : N) → Any (λ part. damages part name) b → Any (λ file. IsDamaged file name) files
   all_told files a b none more name any = ⊎_elim (λ before. absurd (none name before)) (λ here. here) (more.names name any)
 
 module _ {C : Type 0} (awaits : C → ℕ) (damages : C → Name → Type 0) (parts : List (Part C)) (first second : Vec Entry) where

@@ -1,17 +1,20 @@
 -- The parts of the buffers.
-use Rattle.std.proofs.Common.{◌≡◌, List, [], ◌∷◌, ◌++◌, All, reverse, sym, ap, subst, ◌∙◌}
+use Rattle.std.proofs.Common.{◌≡◌, ◌⊎◌, List, [], ◌∷◌, ◌++◌, All, reverse, ⊎_elim, inl, inr, sym, ap, subst, ◌∙◌}
 use Rattle.std.specs.Global.{Vec}
-use Rattle.std.specs.Prelude.{flat_map}
+use Rattle.std.specs.Prelude.{Any, Contains, flat_map}
 use Rattle.std.proofs.lemmas.List.{append-nil}
 use Rattle.std.proofs.lemmas.List.Elements.{All-cons, All-nil}
+use Rattle.std.proofs.lemmas.List.Sorted.{Contains-permutation, IsPermutation-reverse}
 use Rattle.lethe_base.specs.Keys.{Bytes}
 use Rattle.lethe_base.specs.Entries.{IsAscending}
+use Rattle.lethe_base.specs.Read.{is_between}
 use Rattle.lethe_base.specs.declared.entry.Entry.{Entry}
+use Rattle.lethe_file.proofs.Joined.{from_filter}
 use Rattle.lethe_read.specs.Between.{AreReadBetween}
-use Rattle.lethe_read.specs.Parts.{IsSound, left_in}
+use Rattle.lethe_read.specs.Parts.{IsSound, gives_in, left_in}
 use Rattle.lethe_read.specs.declared.part.Part.{Part}
 use Rattle.lethe_read.specs.declared.part.Part.TheVariants.{Buffered}
-use Rattle.lethe_read.proofs.Adding.{buffers_read}
+use Rattle.lethe_read.proofs.Adding.{Any-cases, buffers_read, only_of}
 use Rattle.lethe_read.proofs.Ranges.{between_ascends, entries_between}
 
 module _ {C : Type 0} (left : C → List Entry) (lo hi : Bytes) (active frozen : List Entry) where
@@ -46,3 +49,22 @@ module _ {C : Type 0} (left : C → List Entry) (lo hi : Bytes) (active frozen :
         → parts ≡ Buffered first ∷ Buffered second ∷ [] → AreSound parts
     two_sound first second ascending too is other all =
         subst AreSound (sym all) (one first (Buffered second ∷ []) (copies_ascend active first ascending is) (one second [] (copies_ascend frozen second too other) (All-nil (IsSound tells sound left))))
+
+-- what the parts of the buffers may give
+module _ {C : Type 0} (gives : C → Entry → Type 0) (lo hi : Bytes) (active frozen : List Entry) (parts : List (Part C)) (entry : Entry) where
+  copied : (es : List Entry) (held : Vec Entry) → reverse held.items ≡ entries_between lo hi es → Contains held.items entry → Contains es entry
+  copied es held is has =
+      (from_filter (λ (entry : Entry). is_between lo hi entry.key) es entry
+      (subst (λ (l : List Entry). Contains l entry) is (Contains-permutation held.items (reverse held.items) entry (IsPermutation-reverse held.items) has))).0
+
+  abbrev Gives : Part C → Type 0
+  Gives part = gives_in gives part entry
+
+  pub one_gives : (first : Vec Entry) → reverse first.items ≡ entries_between lo hi active → parts ≡ Buffered first ∷ [] → Any Gives parts → Contains active entry ⊎ Contains frozen entry
+  one_gives first is all any = inl (copied active first is (only_of Gives (Buffered first) (subst (Any Gives) all any)))
+
+  pub two_give : (first second : Vec Entry) → reverse first.items ≡ entries_between lo hi active → reverse second.items ≡ entries_between lo hi frozen → parts ≡ Buffered first ∷ Buffered second ∷ []
+      → Any Gives parts → Contains active entry ⊎ Contains frozen entry
+  two_give first second is other all any =
+      ⊎_elim (λ here. inl (copied active first is (only_of Gives (Buffered first) here))) (λ here. inr (copied frozen second other (only_of Gives (Buffered second) here)))
+      (Any-cases Gives (Buffered first ∷ []) (Buffered second ∷ []) (subst (Any Gives) all any))

@@ -5,7 +5,7 @@ use Rattle.lethe_base.specs.declared.entry.Entry.{Entry}
 use Rattle.lethe_base.specs.declared.name.Name.{Name}
 use Rattle.lethe_disk.specs.declared.disk.Disk.{Ghosts}
 use Rattle.lethe_file.specs.Between.{numbers_between}
-use Rattle.lethe_file.specs.Damage.{IsDamagedAmong, damages_in}
+use Rattle.lethe_file.specs.Damage.{IsDamagedAmong, IsVouched, damages_in, gives_in}
 use Rattle.lethe_file.specs.Waiting.{IsSoundIn, awaited_in}
 use Rattle.lethe_file.specs.Waiting as waiting
 use Rattle.lethe_file.specs.declared.cursor.FileCursor.{FileCursor}
@@ -36,6 +36,16 @@ module _ {D Page Port : Type 0} (disk : Ghosts D Page Port) where
   -- one of its pages is told by the name
   abbrev pub IsToldIn : FileView D Page Port disk → Name → Type 0
   IsToldIn file name = IsDamagedAmong disk.tells (lines_of file.header.tiles) (bytes_of file) name
+
+  -- what a part may give, and for what a file vouches
+  abbrev pub part_gives : Part (FileCursor D Page Port) → Entry → Type 0
+  part_gives part entry = parts.gives_in (λ cursor. gives_in disk.page_bytes cursor.unread) part entry
+
+  abbrev pub Vouches : FileView D Page Port disk → Entry → Type 0
+  Vouches file entry = IsVouched (lines_of file.header.tiles) entry
+
+  abbrev pub GivesFiles : Bytes → Bytes → List (FileView D Page Port disk) → List (Part (FileCursor D Page Port)) → List (Part (FileCursor D Page Port)) → Type 0
+  GivesFiles lo hi files old new = Awaits part_awaits part_gives (pages_in lo hi) Vouches files old new
 
   abbrev pub AwaitsFiles : Bytes → Bytes → List (FileView D Page Port disk) → List (Part (FileCursor D Page Port)) → List (Part (FileCursor D Page Port)) → Type 0
   AwaitsFiles lo hi files old new = Awaits part_awaits part_damages (pages_in lo hi) IsToldIn files old new

@@ -12,7 +12,7 @@ use Rattle.lethe_base.specs.declared.entry.Entry.{Entry}
 use Rattle.lethe_base.specs.declared.name.Name.{Name}
 use Rattle.lethe_disk.specs.declared.disk.Disk.{Ghosts}
 use Rattle.lethe_file.specs.Between.{AreBetween, numbers_between}
-use Rattle.lethe_file.specs.Damage.{damages_in}
+use Rattle.lethe_file.specs.Damage.{damages_in, gives_in}
 use Rattle.lethe_file.specs.Waiting.{IsSoundIn, awaited_in}
 use Rattle.lethe_file.specs.Waiting as waiting
 use Rattle.lethe_file.specs.declared.cursor.FileCursor.{FileCursor}
@@ -28,7 +28,7 @@ use Rattle.lethe_read.specs.declared.part.Part.TheVariants.{Filed}
 use Rattle.lethe_read.proofs.Adding.{Any-cases, Any-left, Any-right, adds_file, adds_none, adds_nothing, left_with, only_of}
 use Rattle.lethe_read.proofs.Awaiting.{awaits_file, awaits_none, awaits_nothing}
 use Rattle.lethe_read.proofs.Fences.{from_least, up_to_greatest}
-use Rattle.lethe_read.proofs.Filed.{AddsFiles, AwaitsFiles, IsToldIn, pages_in, part_awaits, part_damages, part_left, part_sound}
+use Rattle.lethe_read.proofs.Filed.{AddsFiles, AwaitsFiles, GivesFiles, IsToldIn, Vouches, pages_in, part_awaits, part_damages, part_gives, part_left, part_sound}
 use Rattle.lethe_read.proofs.Runs.{left_push, run_none, run_push}
 
 -- entries with some more put in between
@@ -61,11 +61,13 @@ module _ {D Page Port : Type 0} (disk : Ghosts D Page Port) where
     pub between : IsSound file → AreBetween lo (Some hi) (entries_of file) (cursor_left cursor)
     pub pages : awaited_in disk.page_bytes cursor.unread ≡ numbers_between lo (Some hi) file.header.tiles
     pub told : (name : Name) → damages_in disk.tells disk.page_bytes cursor.unread name → IsToldIn disk file name
+    pub gives : (entry : Entry) → gives_in disk.page_bytes cursor.unread entry → Vouches disk file entry
 
   -- Cursors over all these files were added: the run has those of the first files, and the parts the others.
   pub record AreAdded (lo hi : Bytes) (files : List (FileView D Page Port disk)) (old parts : List (Part (FileCursor D Page Port))) (run : Vec (FileCursor D Page Port)) : Type 0 where
     pub adds : AddsFiles disk lo hi files old (parts ++ Filed run ∷ [])
     pub awaits : AwaitsFiles disk lo hi files old (parts ++ Filed run ∷ [])
+    pub gives : GivesFiles disk lo hi files old (parts ++ Filed run ∷ [])
     pub from : All IsSound files → AreFrom files (part_left disk (Filed run))
 
   -- and the run may take one over this file
@@ -76,14 +78,16 @@ module _ {D Page Port : Type 0} (disk : Ghosts D Page Port) where
   module _ (lo hi : Bytes) where
     -- an empty run behind the parts
     begun : (files : List (FileView D Page Port disk)) (old parts : List (Part (FileCursor D Page Port))) (run : Vec (FileCursor D Page Port)) → run.items ≡ [] → AddsFiles disk lo hi files old parts → AwaitsFiles disk lo hi files old parts
-        → AreAdded lo hi files old parts run
-    begun files old parts run none adds awaits =
+        → GivesFiles disk lo hi files old parts → AreAdded lo hi files old parts run
+    begun files old parts run none adds awaits gives =
         let nothing : part_left disk (Filed run) ≡ [] = ap (λ l. flat_map cursor_left (reverse l)) none in
         record {
           adds = adds_nothing disk.tells (part_sound disk) (part_left disk) IsSound entries_of lo hi files old parts (parts ++ Filed run ∷ []) (Filed run) refl nothing
               (run_none disk.tells (λ cursor. IsSoundIn disk.tells disk.page_bytes cursor.unread) cursor_left run.items none) adds;
           awaits = awaits_nothing (part_awaits disk) (part_damages disk) (pages_in disk lo hi) (IsToldIn disk) files old parts (parts ++ Filed run ∷ []) (Filed run) refl
               (ap (sum_by (λ (cursor : FileCursor D Page Port). length (awaited_in disk.page_bytes cursor.unread))) none) (λ name (k, cursor, lt, is, told). omega (arith, lt, ap length none)) awaits;
+          gives = awaits_nothing (part_awaits disk) (part_gives disk) (pages_in disk lo hi) (Vouches disk) files old parts (parts ++ Filed run ∷ []) (Filed run) refl
+              (ap (sum_by (λ (cursor : FileCursor D Page Port). length (awaited_in disk.page_bytes cursor.unread))) none) (λ entry (k, cursor, lt, is, given). omega (arith, lt, ap length none)) gives;
           from = λ agree. from_none files nothing;
         }
       where
@@ -97,7 +101,8 @@ module _ {D Page Port : Type 0} (disk : Ghosts D Page Port) where
         → AreAdded lo hi (map view (drop (length items) items)) old old run
     none_added view items old run none =
         subst (λ l. AreAdded lo hi (map view l) old old run) (sym (drop_all (length items) items (omega arith)))
-        (begun [] old old run none (adds_none disk.tells (part_sound disk) (part_left disk) IsSound entries_of lo hi old) (awaits_none (part_awaits disk) (part_damages disk) (pages_in disk lo hi) (IsToldIn disk) old))
+        (begun [] old old run none (adds_none disk.tells (part_sound disk) (part_left disk) IsSound entries_of lo hi old) (awaits_none (part_awaits disk) (part_damages disk) (pages_in disk lo hi) (IsToldIn disk) old)
+        (awaits_none (part_awaits disk) (part_gives disk) (pages_in disk lo hi) (Vouches disk) old))
 
     -- the run is ended, and an empty one begun
     pub begins : (file : FileView D Page Port disk) (files : List (FileView D Page Port disk)) (old parts more : List (Part (FileCursor D Page Port))) (run ended next made : Vec (FileCursor D Page Port)) → ended ≡ run
@@ -106,7 +111,7 @@ module _ {D Page Port : Type 0} (disk : Ghosts D Page Port) where
         let all : more ≡ parts ++ Filed run ∷ [] = is ∙ ap (λ run. parts ++ Filed run ∷ []) same in
         let none : next.items ≡ [] = ap (λ run. run.items) new ∙ empty in
         record {
-          added = begun files old more next none (subst (AddsFiles disk lo hi files old) (sym all) before.adds) (subst (AwaitsFiles disk lo hi files old) (sym all) before.awaits);
+          added = begun files old more next none (subst (AddsFiles disk lo hi files old) (sym all) before.adds) (subst (AwaitsFiles disk lo hi files old) (sym all) before.awaits) (subst (GivesFiles disk lo hi files old) (sym all) before.gives);
           below = λ agree. subst (All (λ entry. key_cmp (greatest_key file.header.tiles) entry.key ≡ Less)) (sym (ap (λ l. flat_map cursor_left (reverse l)) none))
               (All-nil (λ (entry : Entry). key_cmp (greatest_key file.header.tiles) entry.key ≡ Less));
         }
@@ -159,11 +164,21 @@ module _ {D Page Port : Type 0} (disk : Ghosts D Page Port) where
           (Any-cases Told run.items (cursor ∷ []) (subst (Any Told) is (only_of Tells (Filed more) last))))
           (Any-cases Tells parts (Filed more ∷ []) any)
 
+      given_more : (entry : Entry) → Any (λ part. part_gives disk part entry) (parts ++ Filed more ∷ []) → Any (λ part. part_gives disk part entry) (parts ++ Filed run ∷ []) ⊎ Vouches disk file entry
+      given_more entry any =
+          let Gives : Part (FileCursor D Page Port) → Type 0 = λ part. part_gives disk part entry in
+          let Given : FileCursor D Page Port → Type 0 = λ cursor. gives_in disk.page_bytes cursor.unread entry in
+          ⊎_elim (λ before. inl (Any-left Gives parts (Filed run ∷ []) before))
+          (λ last. ⊎_elim (λ here. inl (Any-right Gives parts (Filed run ∷ []) (0, Filed run, omega arith, refl, here))) (λ own. inr (over.gives entry (only_of Given cursor own)))
+          (Any-cases Given run.items (cursor ∷ []) (subst (Any Given) is (only_of Gives (Filed more) last))))
+          (Any-cases Gives parts (Filed more ∷ []) any)
+
       taken : MayTake lo hi file files old parts run → AreAdded lo hi (file ∷ files) old parts more
       taken before = record {
         adds = adds_file disk.tells (part_sound disk) (part_left disk) IsSound entries_of lo hi file files old (parts ++ Filed run ∷ []) (parts ++ Filed more ∷ []) (cursor_left cursor) before.added.adds over.between has_more
             (λ tells agree. sound_more tells (All-head IsSound file files agree) (before.below (All-tail IsSound file files agree)));
         awaits = awaits_file (part_awaits disk) (part_damages disk) (pages_in disk lo hi) (IsToldIn disk) file files old (parts ++ Filed run ∷ []) (parts ++ Filed more ∷ []) before.added.awaits awaits_more told_more;
+        gives = awaits_file (part_awaits disk) (part_gives disk) (pages_in disk lo hi) (Vouches disk) file files old (parts ++ Filed run ∷ []) (parts ++ Filed more ∷ []) before.added.gives awaits_more given_more;
         from = λ agree. from_file (All-head IsSound file files agree) (before.below (All-tail IsSound file files agree));
       }
 
@@ -204,3 +219,6 @@ module _ {D Page Port : Type 0} (disk : Ghosts D Page Port) where
 
         pub all_awaited : AwaitsFiles disk lo hi (map view items) old more
         all_awaited = subst (AwaitsFiles disk lo hi (map view items) old) (sym is) (subst (λ files. AwaitsFiles disk lo hi files old (parts ++ Filed run ∷ [])) all added.awaits)
+
+        pub all_given : GivesFiles disk lo hi (map view items) old more
+        all_given = subst (GivesFiles disk lo hi (map view items) old) (sym is) (subst (λ files. GivesFiles disk lo hi files old (parts ++ Filed run ∷ [])) all added.gives)

@@ -36,6 +36,11 @@ abbrev pub awaits_in : {C : Type 0} → (C → ℕ) → Part C → ℕ
 awaits_in awaits (Buffered entries) = 0
 awaits_in awaits (Filed cursors) = sum_by awaits cursors.items
 
+-- what it may give on any disk, by what its cursors may
+abbrev pub gives_in : {C : Type 0} → (C → Entry → Type 0) → Part C → Entry → Type 0
+gives_in gives (Buffered entries) entry = Contains entries.items entry
+gives_in gives (Filed cursors) entry = Any (λ cursor. gives cursor entry) cursors.items
+
 -- the names that it may tell as damaged
 abbrev pub Damages : {C : Type 0} → (C → Name → Type 0) → Part C → Name → Type 0
 Damages damages (Buffered entries) name = ⊥
@@ -57,8 +62,8 @@ pub record Adds {C F : Type 0} (tells : Type 0) (sound : C → Type 0) (left : C
   pub besides : All agrees files → (entry : Entry)
       → Contains (flat_map left new) entry ↔ (Contains (flat_map left old) entry ⊎ (Any (λ file. Any (λ page. Contains page entry) file) (map entries_of files) × IsTrue (is_between lo hi entry.key)))
 
--- Of what the parts may still fetch and tell as damaged: they await as many pages more as the files have between the two keys, and a name that they may tell is one
--- that they might tell before, or a damaged page's of one of the files.
-pub record Awaits {C F : Type 0} (awaits : C → ℕ) (damages : C → Name → Type 0) (pages_between : F → ℕ) (IsDamaged : F → Name → Type 0) (files : List F) (old new : List C) : Type 0 where
+-- Of what the parts may still fetch and tell: they await as many pages more as the files have between the two keys, and what they may tell they might tell before, or one of
+-- the files has it.
+pub record Awaits {C F N : Type 0} (awaits : C → ℕ) (damages : C → N → Type 0) (pages_between : F → ℕ) (IsDamaged : F → N → Type 0) (files : List F) (old new : List C) : Type 0 where
   pub count : sum_by awaits new ≡ sum_by awaits old + sum_by pages_between files
-  pub names : (name : Name) → Any (λ part. damages part name) new → Any (λ part. damages part name) old ⊎ Any (λ file. IsDamaged file name) files
+  pub names : (name : N) → Any (λ part. damages part name) new → Any (λ part. damages part name) old ⊎ Any (λ file. IsDamaged file name) files

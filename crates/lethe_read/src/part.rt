@@ -1,7 +1,7 @@
 //! A part of a store as a cursor.
 ghost use Rattle.std.specs.Prelude.{◌≡◌, filter, reverse, IfOk};
 ghost use Rattle.lethe_base.specs.Read.{is_between};
-ghost use Rattle.lethe_read.specs.Parts.{Damages, IsSound, MayAsk, awaits_in, left_in, part_ascends};
+ghost use Rattle.lethe_read.specs.Parts.{Damages, IsSound, MayAsk, awaits_in, gives_in, left_in, part_ascends};
 
 use lethe_base::{Entry, Key, NoMemory};
 use lethe_disk::{Cursor, Disk, ReadRefused};
@@ -27,6 +27,8 @@ impl<D: Disk, C: Cursor<D> + Drop> Cursor<D> for Part<C> {
     ghost awaits = { awaits_in C.awaits };
 
     ghost damages = { Damages C.damages };
+
+    ghost gives = { gives_in C.gives };
 
     ghost ascends = { part_ascends D.tells C.may_ask C.sound C.left };
 

@@ -1,21 +1,22 @@
 //! The pairs of the keys between two.
-ghost use Rattle.std.specs.Prelude.{◌≡◌, ◌+◌, ◌-◌, ◌<◌, ◌≤◌, ◌∷◌, [], ◌++◌, Some, true, false, drop, length, map, flat_map, sum_by, List, All, Any, IfOk, OnOk, IsErrOf};
+ghost use Rattle.std.specs.Prelude.{◌≡◌, ◌⊎◌, ℕ, ◌+◌, ◌-◌, ◌<◌, ◌≤◌, ◌∷◌, [], ◌++◌, Some, true, false, drop, length, map, flat_map, sum_by, List, All, Any, Contains, IfOk, OnOk, IsErrOf};
 ghost use Rattle.std.specs.Option.{option_copied};
 ghost use Rattle.std.specs.Ordering.{is_lt};
-ghost use Rattle.lethe_base.specs.Keys.{key_cmp};
+ghost use Rattle.lethe_base.specs.Keys.{Bytes, key_cmp};
 ghost use Rattle.lethe_base.specs.Read.{is_between};
+ghost use Rattle.lethe_base.specs.declared.entry.Body.TheVariants.{Put};
 ghost use Rattle.lethe_base.specs.declared.entry.Entry.{Entry};
 ghost use Rattle.lethe_base.specs.declared.name.Name.{Name};
 ghost use Rattle.lethe_disk.specs.Reads.{HasReadCause, IsFault};
 ghost use Rattle.lethe_disk.specs.declared.cursor.ReadRefused.TheVariants.{Damaged};
 ghost use Rattle.lethe_file.specs.Between.{numbers_between};
-ghost use Rattle.lethe_file.specs.Damage.{IsDamagedAmong};
+ghost use Rattle.lethe_file.specs.Damage.{IsDamagedAmong, IsVouched};
 ghost use Rattle.lethe_header.specs.Facts.{greatest_key, least_key, lines_of};
 ghost use Rattle.lethe_mem.specs.Pairs.{pairs_of};
 ghost use Rattle.lethe_merge.specs.Merge.{merged};
-ghost use Rattle.lethe_version.specs.Versions.{IsDamagedInAny, IsSound, bytes_of, entries_of, files_of, pages_between};
+ghost use Rattle.lethe_version.specs.Versions.{IsDamagedInAny, IsSound, IsVouchedBy, bytes_of, entries_of, files_of, pages_between};
 ghost use Rattle.lethe_read.specs.Between.{AreListedBetween, AreReadBetween, by_keys, is_behind};
-ghost use Rattle.lethe_read.specs.Found.{frozen_entries};
+ghost use Rattle.lethe_read.specs.Found.{IsBacked, frozen_entries};
 ghost use Rattle.lethe_read.specs.Parts.{Adds, Awaits, joins};
 
 use crate::part::{Part, copies_between};
@@ -47,6 +48,8 @@ pub fn scan<D: Disk, B: Buffer>(
 
     // On any disk.
     ensures between { IfOk result (λ pairs. AreListedBetween lo.now hi.now pairs.items) }
+    ensures backed { IfOk result (λ pairs. (pair : Bytes × ℕ × Bytes) → Contains pairs.items pair
+        → IsBacked pair.0 (B.entries active.now) (frozen_entries B.entries (option_copied frozen.entry)) (IsVouchedBy version.now) (pair.1, pair.2)) }
 
     // Each page of a tile that meets the range is fetched once, and no other page; nothing is fetched where `lo` isn't below `hi`.
     ensures fetches { is_lt (key_cmp lo.now hi.now) ≡ true → OnOk result (D.fetches port.new ≡ D.fetches port.old + pages_between lo.now hi.now version.now) }
@@ -83,6 +86,8 @@ fn parts_of<D: Disk, B: Buffer>(
     ensures left { All IsSound (files_of version.now) → IfOk result (λ parts.
         AreReadBetween lo.now hi.now (B.entries active.now) (frozen_entries B.entries (option_copied frozen.entry)) (map entries_of (files_of version.now)) (flat_map ⟦<Part<FileCursor<D>> as Cursor<D>>⟧.left parts.items)) }
     ensures awaits { IfOk result (λ parts. sum_by ⟦<Part<FileCursor<D>> as Cursor<D>>⟧.awaits parts.items ≡ pages_between lo.now hi.now version.now) }
+    ensures gives { IfOk result (λ parts. (entry : Entry) → Any (λ part. ⟦<Part<FileCursor<D>> as Cursor<D>>⟧.gives part entry) parts.items
+        → (Contains (B.entries active.now) entry ⊎ Contains (frozen_entries B.entries (option_copied frozen.entry)) entry) ⊎ IsVouchedBy version.now entry) }
     ensures damages { IfOk result (λ parts. (name : Name) → Any (λ part. ⟦<Part<FileCursor<D>> as Cursor<D>>⟧.damages part name) parts.items → IsDamagedInAny version.now name) }
 {
     let mut parts = buffered_parts::<D, B>(alloc, active, frozen, lo, hi)?;
@@ -104,6 +109,8 @@ fn buffered_parts<D: Disk, B: Buffer>(
     ensures left { IfOk result (λ parts.
         AreReadBetween lo.now hi.now (B.entries active.now) (frozen_entries B.entries (option_copied frozen.entry)) [] (flat_map ⟦<Part<FileCursor<D>> as Cursor<D>>⟧.left parts.items)) }
     ensures awaits { IfOk result (λ parts. sum_by ⟦<Part<FileCursor<D>> as Cursor<D>>⟧.awaits parts.items ≡ 0) }
+    ensures gives { IfOk result (λ parts. (entry : Entry) → Any (λ part. ⟦<Part<FileCursor<D>> as Cursor<D>>⟧.gives part entry) parts.items
+        → Contains (B.entries active.now) entry ⊎ Contains (frozen_entries B.entries (option_copied frozen.entry)) entry) }
     ensures damages { IfOk result (λ parts. (name : Name) → Any (λ part. ⟦<Part<FileCursor<D>> as Cursor<D>>⟧.damages part name) parts.items → ⊥) }
 {
     let mut parts = Vec::new(alloc);
@@ -124,6 +131,9 @@ fn push_files<D: Disk>(
 ) -> Result<(), NoMemory>
     ensures awaits { OnOk result (Awaits ⟦<Part<FileCursor<D>> as Cursor<D>>⟧.awaits ⟦<Part<FileCursor<D>> as Cursor<D>>⟧.damages
         (λ file. length (numbers_between lo.now (Some hi.now) file.header.tiles)) (λ file. IsDamagedAmong D.tells (lines_of file.header.tiles) (bytes_of file))
+        (map (λ shared. shared.file.value) files.now) parts.old.items parts.new.items) }
+    ensures gives { OnOk result (Awaits ⟦<Part<FileCursor<D>> as Cursor<D>>⟧.awaits ⟦<Part<FileCursor<D>> as Cursor<D>>⟧.gives
+        (λ file. length (numbers_between lo.now (Some hi.now) file.header.tiles)) (λ file. IsVouched (lines_of file.header.tiles))
         (map (λ shared. shared.file.value) files.now) parts.old.items parts.new.items) }
     ensures adds { OnOk result (Adds D.tells ⟦<Part<FileCursor<D>> as Cursor<D>>⟧.sound ⟦<Part<FileCursor<D>> as Cursor<D>>⟧.left IsSound entries_of lo.now hi.now
         (map (λ shared. shared.file.value) files.now) parts.old.items parts.new.items) }
@@ -175,6 +185,8 @@ fn pairs_from<D: Disk, C: Cursor<D>>(
     requires { C.may_ask cursor.old }
     ensures listed { D.tells → C.sound cursor.old → IfOk result (λ pairs. by_keys pairs.items ≡ pairs_of (C.left cursor.old)) }
     ensures between { IfOk result (λ pairs. AreListedBetween lo.now hi.now pairs.items) }
+    ensures among { IfOk result (λ pairs. (pair : Bytes × ℕ × Bytes) → Contains pairs.items pair
+        → (entry : Entry) × C.gives cursor.old entry × (entry.key ≡ pair.0) × (entry.body ≡ Put pair.1 pair.2)) }
     ensures once { OnOk result (D.fetches port.new ≡ D.fetches port.old + C.awaits cursor.old) }
     ensures at_most { D.fetches port.new ≤ D.fetches port.old + C.awaits cursor.old }
     ensures damaged { (name : Name) → IsErrOf result (Damaged name) → C.damages cursor.old name × (D.fetches port.old < D.fetches port.new) }
@@ -207,6 +219,8 @@ fn push_pair(
     requires { AreListedBetween lo.now hi.now pairs.old.items }
     ensures pairs { OnOk result (by_keys pairs.new.items ≡ by_keys pairs.old.items ++ pairs_of (entry ∷ [])) }
     ensures between { AreListedBetween lo.now hi.now pairs.new.items }
+    ensures among { (pair : Bytes × ℕ × Bytes) → Contains pairs.new.items pair
+        → Contains pairs.old.items pair ⊎ ((entry.key ≡ pair.0) × (entry.body ≡ Put pair.1 pair.2)) }
 {
     let Entry { key, body, .. } = entry;
     if let Body::Put { dkey, value } = body {

@@ -29,6 +29,8 @@ impl<D: Disk> Cursor<D> for Listed {
 
     ghost damages = { λ _ _. ⊥ };
 
+    ghost gives = { λ _ _. Unit {0} };
+
     ghost ascends = { λ c asked sound. sound };
 
     fn next(&mut self, _alloc: Global, _port: &mut D::Port) -> Result<Option<Entry>, ReadRefused> {

@@ -1,4 +1,5 @@
-use Rattle.std.proofs.Common.{◌≡◌, ◌+◌, ◌++◌, List, Vec, Result, Err, arith, ap, sym, subst, ◌∙◌}
+use Rattle.std.proofs.Common.{rules, ◌≡◌, ◌+◌, ◌++◌, List, Vec, Result, Err, arith, ap, sym, subst, ◌∙◌}
+use Rattle.std.specs.Prelude.{Contains}
 use Rattle.std.specs.declared.alloc.Global.{Global}
 use Rattle.lethe_base.specs.declared.entry.Entry.{Entry}
 use Rattle.lethe_disk.specs.Reads.{HasReadCause, IsFault}
@@ -12,6 +13,14 @@ use Rattle.lethe_file.proofs.collecting.collect.Goals as goal
 
 abbrev refused : ReadRefused → Result (Vec Entry Global) ReadRefused
 refused why = Err why
+
+pub loop-held-init : goal.loop-held-init
+loop-held-init g c = record {
+  risen = omega arith;
+  counted = omega arith;
+  given = λ told. search rules;
+  vouched = λ entry has. absurd (let none = subst (λ (es : List Entry). Contains es entry) c.new-all.ensures.items has in omega (arith, none.1));
+}
 
 pub loop-held-preserved : goal.loop-held-preserved
 loop-held-preserved g c =

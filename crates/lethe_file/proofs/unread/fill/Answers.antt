@@ -1,4 +1,4 @@
-use Rattle.std.proofs.Common.{◌≡◌, ◌-◌, ℕ, arith, [], Vec, Result, Err, Some, length, take, reverse, ap, refl, sym, subst, ◌∙◌}
+use Rattle.std.proofs.Common.{◌≡◌, ◌-◌, ℕ, arith, [], Vec, Result, Err, Some, length, take, reverse, ⊎_elim, inl, inr, ap, refl, sym, subst, ◌∙◌}
 use Rattle.std.specs.Prelude.{Any, slice_get}
 use Rattle.std.proofs.lemmas.Bool.{eqb-true}
 use Rattle.std.specs.declared.alloc.Global.{Global}
@@ -7,7 +7,7 @@ use Rattle.lethe_base.specs.declared.entry.Entry.{Entry}
 use Rattle.lethe_disk.specs.Reads.{HasReadCause}
 use Rattle.lethe_disk.specs.declared.cursor.ReadRefused.{ReadRefused}
 use Rattle.lethe_tile.proofs.Parts.{empty_is}
-use Rattle.lethe_file.specs.Damage.{IsDamagedIn}
+use Rattle.lethe_file.specs.Damage.{IsDamagedIn, IsVouchedIn}
 use Rattle.lethe_disk.specs.Reads.{refused_since}
 use Rattle.lethe_file.specs.Waiting.{of_waiting, waiting, waits_in}
 use Rattle.lethe_file.specs.declared.range.KeyRange.{KeyRange}
@@ -19,7 +19,7 @@ abbrev refused : ReadRefused → Result (Unit {0}) ReadRefused
 refused why = Err why
 
 pub loop-alloc-init : goal.loop-alloc-init
-loop-alloc-init g c = (refl, filling_none g.S.PageSource.tells c.args.unread.now.range.lo c.args.unread.now.range.hi (waiting g.S.PageSource.page_bytes c.args.unread.now.tiles.items) c.args.unread.now.entries.items (g.S.PageSource.fetches c.args.port.now) (g.S.PageSource.port_faults c.args.port.now))
+loop-alloc-init g c = (refl, filling_none g.S.PageSource.tells c.args.unread.now.range.lo c.args.unread.now.range.hi (waiting g.S.PageSource.page_bytes c.args.unread.now.tiles.items) c.args.unread.now.entries.items (g.S.PageSource.fetches c.args.port.now) (g.S.PageSource.port_faults c.args.port.now), λ entry has. inl has)
 
 pub loop-alloc-preserved-in-Ok : goal.loop-alloc-preserved-in-Ok
 loop-alloc-preserved-in-Ok g c =
@@ -36,6 +36,9 @@ loop-alloc-preserved-in-Ok g c =
       turn g.S.PageSource.page_bytes g.S.PageSource.tells lo hi (waiting g.S.PageSource.page_bytes c.args.unread.now.tiles.items) c.args.unread.now.entries.items tiles entries.items
           (g.S.PageSource.fetches c.args.port.now) (g.S.PageSource.fetches c.loop-alloc.port) (g.S.PageSource.port_faults c.args.port.now) (g.S.PageSource.port_faults c.loop-alloc.port) c.loop-alloc.invariant.1 tile at
           c.pop.new.self.items c.in-Ok.entries.items (g.S.PageSource.fetches c.fetch_tile.new.port) (g.S.PageSource.port_faults c.fetch_tile.new.port) popped none c.in-Ok.ensures.fetches c.in-Ok.ensures.cause.later given,
+      λ entry has. inr (refused_damage g.S.PageSource.page_bytes g.S.PageSource.tells lo hi (waiting g.S.PageSource.page_bytes c.args.unread.now.tiles.items) c.args.unread.now.entries.items tiles entries.items
+          (g.S.PageSource.fetches c.args.port.now) (g.S.PageSource.fetches c.loop-alloc.port) (g.S.PageSource.port_faults c.args.port.now) (g.S.PageSource.port_faults c.loop-alloc.port) c.loop-alloc.invariant.1 tile at
+          (IsVouchedIn entry) (c.in-Ok.ensures.vouched entry has)),
     )
 
 pub loop-alloc-preserved : goal.loop-alloc-preserved
@@ -53,6 +56,9 @@ loop-alloc-preserved g c =
       turn g.S.PageSource.page_bytes g.S.PageSource.tells lo hi (waiting g.S.PageSource.page_bytes c.args.unread.now.tiles.items) c.args.unread.now.entries.items tiles entries.items
           (g.S.PageSource.fetches c.args.port.now) (g.S.PageSource.fetches c.loop-alloc.port) (g.S.PageSource.port_faults c.args.port.now) (g.S.PageSource.port_faults c.loop-alloc.port) c.loop-alloc.invariant.1 tile at
           c.pop.new.self.items c.in-Ok.entries.items (g.S.PageSource.fetches c.fetch_tile.new.port) (g.S.PageSource.port_faults c.fetch_tile.new.port) popped none c.in-Ok.ensures.fetches c.in-Ok.ensures.cause.later given,
+      λ entry has. inr (refused_damage g.S.PageSource.page_bytes g.S.PageSource.tells lo hi (waiting g.S.PageSource.page_bytes c.args.unread.now.tiles.items) c.args.unread.now.entries.items tiles entries.items
+          (g.S.PageSource.fetches c.args.port.now) (g.S.PageSource.fetches c.loop-alloc.port) (g.S.PageSource.port_faults c.args.port.now) (g.S.PageSource.port_faults c.loop-alloc.port) c.loop-alloc.invariant.1 tile at
+          (IsVouchedIn entry) (c.in-Ok.ensures.vouched entry has)),
     )
 
 pub returns-in-Err-clause-at_most : goal.returns-in-Err-clause-at_most
@@ -90,3 +96,9 @@ returns-in-Err-clause-cause g c =
     let cause = cause_since {T = Vec Entry Global} {U = Unit {0}} (g.S.PageSource.port_faults c.args.port.now) (g.S.PageSource.port_faults c.loop-alloc.port) (g.S.PageSource.port_faults c.fetch_tile.new.port) c.in-Err.why c.loop-alloc.invariant.1.risen c.in-Err.ensures.cause in
     subst (λ (why : ReadRefused). HasReadCause {T = Unit {0}} (g.S.PageSource.port_faults c.args.port.now) (g.S.PageSource.port_faults c.fetch_tile.new.port) (Err why))
     (ap (λ (n : ℕ). refused_since n c.in-Err.why) (sym c.count_faults-before.ensures) ∙ sym c.since.ensures) cause
+
+pub returns-in-Err-clause-given : goal.returns-in-Err-clause-given
+returns-in-Err-clause-given g c = λ entry may. ⊎_elim (λ has. c.loop-alloc.invariant.2 entry has) (λ some. inr (filling_fewer c.loop-alloc.invariant.1 (Any (IsVouchedIn entry)) some)) may
+
+pub returns-clause-given : goal.returns-clause-given
+returns-clause-given g c = λ entry may. ⊎_elim (λ has. c.loop-alloc.invariant.2 entry has) (λ some. inr (filling_fewer c.loop-alloc.invariant.1 (Any (IsVouchedIn entry)) some)) may

@@ -1,5 +1,12 @@
-use Rattle.std.proofs.Common.{rules, Option, arith}
+use Rattle.std.proofs.Common.{rules, ℕ, ◌++◌, ◌∷◌, [], List, Option, ⊎_elim, sym, ap, ◌∙◌, append_assoc, subst, arith}
+use Rattle.std.specs.Prelude.{Contains, IfSome, option_map}
+use Rattle.std.proofs.lemmas.List.Elements.{filter_map-append}
+use Rattle.lethe_base.specs.Entries.{pair_of}
+use Rattle.lethe_base.specs.Keys.{Bytes}
 use Rattle.lethe_base.specs.declared.entry.Entry.{Entry}
+use Rattle.lethe_disk.specs.Reads.{IsNext}
+use Rattle.lethe_mem.specs.Pairs.{pairs_of}
+use Rattle.lethe_read.specs.Between.{by_keys}
 use Rattle.lethe_read.proofs.Listing.{none_listed}
 use Rattle.lethe_read.proofs.Refusals.{cause_handed_on, damage_handed_on}
 use Rattle.lethe_read.proofs.scanning.pairs_from.Goals as goal
@@ -20,8 +27,36 @@ loop-turn-init g c = record {
   sound = λ sound. sound;
   so_far = search rules;
   between = none_listed c.args.lo.now c.args.hi.now c.new-pairs.result.items c.new-pairs.ensures.items;
+  among = λ pair has. absurd (let none = subst (λ (pairs : List (Bytes × ℕ × Bytes)). Contains pairs pair) c.new-pairs.ensures.items has in omega (arith, none.1));
+  gives = λ entry may. may;
   awaited = search rules;
   fewer = λ name may. may;
   fetched = omega arith;
   risen = omega arith;
 }
+
+pub loop-turn-preserved : goal.loop-turn-preserved
+loop-turn-preserved g c =
+    let before = c.loop-turn.invariant in
+    let entry = c.in-Ok-Some.entry in
+    let old = by_keys c.loop-turn.pairs.items in
+    let left = g.C.Cursor.left c.next.new.self in
+    record {
+      again = c.in-Ok-Some.ensures.again;
+      sound = λ sound. c.in-Ok-Some.ensures.still_sound (before.sound sound);
+      so_far = λ told sound.
+          let next = subst (λ (o : Option Entry). IsNext o (g.C.Cursor.left c.loop-turn.cursor) left) c.in-Ok-Some.field-0-is (c.in-Ok-Some.ensures.given told (before.sound sound)) in
+          ap (λ l. l ++ pairs_of left) c.in_ok-push_pair-in-Ok-Some.ensures.pairs
+          ∙ append_assoc old (pairs_of (entry ∷ [])) (pairs_of left)
+          ∙ ap (λ l. old ++ l) (sym (filter_map-append (λ (e : Entry). option_map (λ pair. (e.key, pair)) (pair_of e.body)) (entry ∷ []) left))
+          ∙ ap (λ l. old ++ pairs_of l) (sym next)
+          ∙ before.so_far told sound;
+      between = c.push_pair.ensures.between;
+      among = λ pair has. ⊎_elim (λ earlier. before.among pair earlier)
+          (λ own. (entry, before.gives entry (subst (λ (o : Option Entry). IfSome o (g.C.Cursor.gives c.loop-turn.cursor)) c.in-Ok-Some.field-0-is c.in-Ok-Some.ensures.among), own.0, own.1)) (c.push_pair.ensures.among pair has);
+      gives = λ other may. before.gives other (c.in-Ok-Some.ensures.no_more other may);
+      awaited = omega (arith, before.awaited, c.in-Ok-Some.ensures.once);
+      fewer = λ name may. before.fewer name (c.in-Ok-Some.ensures.fewer name may);
+      fetched = omega (arith, before.fetched, c.in-Ok-Some.ensures.fetches);
+      risen = omega (arith, before.risen, c.in-Ok-Some.ensures.cause.later);
+    }

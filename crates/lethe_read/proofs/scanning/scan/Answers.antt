@@ -1,11 +1,12 @@
-use Rattle.std.proofs.Common.{◌≡◌, ℕ, true, false, List, [], Result, Ok, Err, IfOk, sym, ap, ◌∙◌, arith}
-use Rattle.std.specs.Prelude.{IsErrAnd, IsErrOf, flat_map, map}
+use Rattle.std.proofs.Common.{◌≡◌, ◌⊎◌, ℕ, true, false, List, [], Result, Ok, Err, IfOk, ⊎_elim, sym, ap, subst, ◌∙◌, arith}
+use Rattle.std.specs.Prelude.{Contains, IsErrAnd, IsErrOf, flat_map, map}
 use Rattle.std.specs.Ordering.{is_ge, is_lt}
 use Rattle.std.specs.declared.cmp.Ordering.{Ordering}
 use Rattle.std.specs.declared.cmp.Ordering.TheVariants.{Less, Equal, Greater}
 use Rattle.std.specs.Option.{option_copied}
 use Rattle.lethe_base.specs.History.{Pair}
 use Rattle.lethe_base.specs.Keys.{Bytes}
+use Rattle.lethe_base.specs.declared.entry.Body.TheVariants.{Put, Tomb}
 use Rattle.lethe_base.specs.declared.entry.Entry.{Entry}
 use Rattle.lethe_base.specs.declared.pending.Pending.{Pending}
 use Rattle.lethe_disk.specs.Reads.{HasReadCause}
@@ -13,9 +14,10 @@ use Rattle.lethe_disk.specs.declared.cursor.ReadRefused.{ReadRefused}
 use Rattle.lethe_disk.specs.declared.cursor.ReadRefused.TheVariants.{ReadFault, NoMemory}
 use Rattle.lethe_mem.specs.Pairs.{pairs_of}
 use Rattle.lethe_merge.specs.Merge.{merged}
-use Rattle.lethe_version.specs.Versions.{entries_of, files_of}
+use Rattle.lethe_merge.specs.Sources.{IsMadeOf}
+use Rattle.lethe_version.specs.Versions.{IsVouchedBy, entries_of, files_of}
 use Rattle.lethe_read.specs.Between.{AreReadBetween, by_keys}
-use Rattle.lethe_read.specs.Found.{frozen_entries}
+use Rattle.lethe_read.specs.Found.{IsBacked, frozen_entries}
 use Rattle.lethe_read.proofs.Filed.{part_left}
 use Rattle.lethe_read.proofs.Listing.{none_listed}
 use Rattle.lethe_read.proofs.Nothing.{nothing_merged, nothing_read}
@@ -72,3 +74,26 @@ returns-clause-damaged g c = λ name e.
 
 pub returns-then-ge-clause-between : goal.returns-then-ge-clause-between
 returns-then-ge-clause-between g c = none_listed c.args.lo.now c.args.hi.now c.new.result.items c.new.ensures.items
+
+-- what a put is made of is that put
+put_of : (from entry : Entry) (dkey : ℕ) (value : Bytes) → IsMadeOf from entry → entry.body ≡ Put dkey value → from.body ≡ Put dkey value
+put_of from entry dkey value made is = ⊎_elim (λ same. sym same ∙ is) (λ tomb. absurd (let clash : Tomb ≡ Put dkey value = sym tomb ∙ is in cc)) made.body
+
+backed_all : {T E : Type 0} (pairs : T → List (Bytes × ℕ × Bytes)) (active frozen : List Entry) (IsFiled Gives : Entry → Type 0) (result : Result T E)
+    → ((entry : Entry) → Gives entry → (from : Entry) × IsMadeOf from entry × ((Contains active from ⊎ Contains frozen from) ⊎ IsFiled from))
+    → IfOk result (λ made. (pair : Bytes × ℕ × Bytes) → Contains (pairs made) pair → (entry : Entry) × Gives entry × (entry.key ≡ pair.0) × (entry.body ≡ Put pair.1 pair.2))
+    → IfOk result (λ made. (pair : Bytes × ℕ × Bytes) → Contains (pairs made) pair → IsBacked pair.0 active frozen IsFiled (pair.1, pair.2))
+backed_all pairs active frozen IsFiled Gives (Ok made) given among = λ pair has.
+    let one = among pair has in
+    let from = given one.0 one.1 in
+    record { entry = from.0; of_key = sym from.1.key ∙ one.2; is = put_of from.0 one.0 pair.1 pair.2 from.1 one.3; stands = from.2 }
+backed_all pairs active frozen IsFiled Gives (Err why) given among = tt
+
+pub returns-clause-backed : goal.returns-clause-backed
+returns-clause-backed g c =
+    backed_all (λ pairs. pairs.items) (g.B.Buffer.entries c.args.active.now) (frozen_entries g.B.Buffer.entries (option_copied c.args.frozen)) (IsVouchedBy c.args.version.now) _ c.pairs_from.result
+    (λ entry may. let made = c.in_ok-merger.ensures.gives entry may in (made.0, made.1, c.in_ok-parts.ensures.gives made.0 made.2))
+    c.pairs_from.ensures.among
+
+pub returns-then-ge-clause-backed : goal.returns-then-ge-clause-backed
+returns-then-ge-clause-backed g c = λ pair has. absurd (let none = subst (λ (pairs : List (Bytes × ℕ × Bytes)). Contains pairs pair) c.new.ensures.items has in omega (arith, none.1))

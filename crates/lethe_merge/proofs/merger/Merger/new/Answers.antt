@@ -5,10 +5,11 @@ use Rattle.std.proofs.lemmas.List.{map-id}
 use Rattle.std.proofs.lemmas.Iterator.Adapters.{YieldsList-from_vec}
 use Rattle.std.proofs.lemmas.Iterator.Consumers.{YieldsList-end}
 use Rattle.lethe_merge.specs.Merge.{merged}
-use Rattle.lethe_merge.specs.Sources.{IsSound, awaits_in, left_in}
+use Rattle.lethe_merge.specs.Sources.{GivesMerged, IsSound, awaits_in, left_in}
 use Rattle.lethe_merge.specs.declared.source.Source.{Source}
 use Rattle.lethe_merge.proofs.Awaits.{begins-awaits, begins-damages}
 use Rattle.lethe_merge.proofs.Begins.{unasked, begins-again, begins-sound, begins-left}
+use Rattle.lethe_merge.proofs.Gives.{begins-gives}
 use Rattle.lethe_merge.proofs.Merges.{merged_ascends}
 use Rattle.lethe_merge.proofs.merger.Merger.new.Goals as goal
 use Rattle.lethe_merge.proofs.merger.Merger.new.Goals.{After-drop-cursor-iterator-2}
@@ -43,3 +44,7 @@ pub returns-clause-damages : goal.returns-clause-damages
 returns-clause-damages g c = λ name any.
     begins-damages g.C.Cursor.awaits g.C.Cursor.damages c.args.cursors.items name
     (subst (λ sources. Any (λ (source : Source g.row.C.Denot). g.C.Cursor.damages source.cursor name) sources) (all_made g c) any)
+
+pub returns-clause-gives : goal.returns-clause-gives
+returns-clause-gives g c = λ entry may.
+    begins-gives g.C.Cursor.gives c.args.cursors.items entry (subst (λ sources. GivesMerged g.C.Cursor.gives sources entry) (all_made g c) may)

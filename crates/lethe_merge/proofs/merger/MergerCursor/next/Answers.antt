@@ -14,6 +14,7 @@ use Rattle.lethe_merge.specs.declared.source.Source.{Source}
 use Rattle.lethe_disk.proofs.Causes.{cause_since, damage_since}
 use Rattle.lethe_merge.proofs.Awaits.{IsAwaiting, asked_at_most, asked_damages, awaiting-as, awaiting-asked, awaiting-same, awaiting-taken, awaiting-then, none_awaited}
 use Rattle.lethe_merge.proofs.Fills.{filling-all, filling-asked, filling-same}
+use Rattle.lethe_merge.proofs.Gives.{IsGiving, bared_alike, giving-asked, giving-same, giving-taken, merged_giving, output_given, taken_given}
 use Rattle.lethe_merge.proofs.Skips.{IsTurn, IsSkipping, turn, given-none, given-some, sound-again, skipping-more, merged_as, sound_as}
 use Rattle.lethe_merge.proofs.merger.MergerCursor.next.Goals as goal
 use Rattle.lethe_merge.proofs.merger.MergerCursor.next.Goals.{in-Unasked+in-Ok, in_default, After-take_least}
@@ -41,6 +42,8 @@ loop-place-preserved g c =
         awaiting = awaiting-asked g.C.Cursor.awaits g.C.Cursor.damages now place c.index_mut-source.result.now (g.D.Disk.fetches c.loop-turn.port) within c.index_mut-source.ensures.value w.in-Unasked.is
             c.loop-turn.self.sources.items _ (g.D.Disk.fetches c.loop-place.port) (g.D.Disk.fetches w.next.new.port) w.next.new.self w.in-Ok.next c.loop-place.invariant.awaiting (ap (set now place) w.keep.ensures)
             w.in-Ok.ensures.once w.in-Ok.ensures.ended w.in-Ok.ensures.fewer;
+        giving = giving-asked g.C.Cursor.gives c.loop-turn.self.sources.items now _ place c.index_mut-source.result.now w.next.new.self w.in-Ok.next c.loop-place.invariant.giving within c.index_mut-source.ensures.value
+            (ap (set now place) w.keep.ensures) w.in-Ok.ensures.among w.in-Ok.ensures.no_more;
         erases = c.loop-place.invariant.erases;
         alone = c.loop-place.invariant.alone;
       })
@@ -50,6 +53,7 @@ loop-place-preserved g c =
             filling within c.index_mut-source.ensures.value refl w.in_default.not-Unasked;
         awaiting = awaiting-same g.C.Cursor.awaits g.C.Cursor.damages c.loop-turn.self.sources.items now _ place c.index_mut-source.result.now (g.D.Disk.fetches c.loop-turn.port) (g.D.Disk.fetches c.loop-place.port)
             c.loop-place.invariant.awaiting within c.index_mut-source.ensures.value refl;
+        giving = giving-same g.C.Cursor.gives c.loop-turn.self.sources.items now _ place c.index_mut-source.result.now c.loop-place.invariant.giving within c.index_mut-source.ensures.value refl;
         erases = c.loop-place.invariant.erases;
         alone = c.loop-place.invariant.alone;
       })
@@ -120,6 +124,22 @@ awaited g c next is =
     (subst (λ (o : Option Entry). IfSome o (IsTaken c.deref.result.now c.deref_mut.result.now new)) is c.take_least.ensures.some) in
     awaiting-as g.C.Cursor.awaits g.C.Cursor.damages old new _ f0 f2 (whole g c)
     (awaiting-then g.C.Cursor.awaits g.C.Cursor.damages old now new f0 f2 f2 filled (awaiting-taken g.C.Cursor.awaits g.C.Cursor.damages c.deref.result.now now new next f2 none some))
+
+-- nothing more may be given behind them
+giving : (g : _) (c : After-take_least g) (next : Option Entry) → c.take_least.result ≡ next
+    → IsGiving g.C.Cursor.gives c.args.self.now.sources.items (take c.loop-place.self.sources.len (c.take_least.new.sources ++ drop (length c.take_least.new.sources) c.loop-place.self.sources.items))
+giving g c next is =
+    let old = c.args.self.now.sources.items in
+    let now = c.loop-place.self.sources.items in
+    let new = c.take_least.new.sources in
+    let none : IfNone next (HasNone now new) =
+    subst (λ (sources : List (Source g.row.C.Denot)). IfNone next (HasNone sources new)) c.deref_mut.ensures.value
+    (subst (λ (o : Option Entry). IfNone o (HasNone c.deref_mut.result.now new)) is c.take_least.ensures.none) in
+    let some : IfSome next (IsTaken c.deref.result.now now new) =
+    subst (λ (sources : List (Source g.row.C.Denot)). IfSome next (IsTaken c.deref.result.now sources new)) c.deref_mut.ensures.value
+    (subst (λ (o : Option Entry). IfSome o (IsTaken c.deref.result.now c.deref_mut.result.now new)) is c.take_least.ensures.some) in
+    subst (λ (sources : List (Source g.row.C.Denot)). IsGiving g.C.Cursor.gives old sources) (sym (whole g c))
+    (λ entry any. c.loop-turn.invariant.giving entry (c.loop-place.invariant.giving entry (giving-taken g.C.Cursor.gives c.deref.result.now now new next none some entry any)))
 
 at_most : (g : _) (c : After-take_least g) (next : Option Entry) → c.take_least.result ≡ next
     → g.D.Disk.fetches c.loop-place.port ≤ g.D.Disk.fetches c.args.port.now + sum_by (awaits_in g.C.Cursor.awaits) c.args.self.now.sources.items
@@ -223,6 +243,29 @@ loop-turn-preserved g c =
           c.loop-turn.self.sources.items (g.D.Disk.port_faults c.loop-turn.port) (g.D.Disk.fetches c.loop-turn.port) c.loop-turn.invariant.skipping c.take_least.new.sources entry
           (g.D.Disk.port_faults c.loop-place.port) (g.D.Disk.fetches c.loop-place.port) dropped (turned g at (Some entry) c.in-Some.is) c.loop-place.invariant.filling.risen c.loop-place.invariant.filling.fetched);
       awaiting = awaited g at (Some entry) c.in-Some.is;
+      giving = giving g at (Some entry) c.in-Some.is;
       erases = c.loop-place.invariant.erases ∙ c.loop-turn.invariant.erases;
       alone = c.loop-place.invariant.alone ∙ c.loop-turn.invariant.alone;
     }
+
+pub returns-in_default-take_least-clause-no_more : goal.returns-in_default-take_least-clause-no_more
+returns-in_default-take_least-clause-no_more g c =
+    merged_giving g.C.Cursor.gives c.args.self.now.sources.items _ (giving g (goal.at.returns-in_default-take_least-clause-no_more g c).After-take_least None c.in_default-take_least.is)
+
+pub returns-in-Some-bare-clause-no_more : goal.returns-in-Some-bare-clause-no_more
+returns-in-Some-bare-clause-no_more g c =
+    merged_giving g.C.Cursor.gives c.args.self.now.sources.items _ (giving g (goal.at.returns-in-Some-bare-clause-no_more g c).After-take_least (Some c.in-Some.entry) c.in-Some.is)
+
+pub returns-in-Some-bare-clause-among : goal.returns-in-Some-bare-clause-among
+returns-in-Some-bare-clause-among g c =
+    let at = (goal.at.returns-in-Some-bare-clause-among g c).After-take_least in
+    let old = c.args.self.now in
+    let entry = c.in-Some.entry in
+    let now = c.loop-place.self.sources.items in
+    let new = c.take_least.new.sources in
+    let kept = sym c.in-Some-bare.is ∙ c.bare.ensures ∙ ap (λ (alone : Bool). bared alone entry entry.body) (alone_as g at) in
+    let some : IsTaken c.deref.result.now now new entry =
+    subst (λ (sources : List (Source g.row.C.Denot)). IsTaken c.deref.result.now sources new entry) c.deref_mut.ensures.value
+    (subst (λ (o : Option Entry). IfSome o (IsTaken c.deref.result.now c.deref_mut.result.now new)) c.in-Some.is c.take_least.ensures.some) in
+    output_given g.C.Cursor.gives old.sources.items now entry c.in-Some-bare.entry (λ from any. c.loop-turn.invariant.giving from (c.loop-place.invariant.giving from any))
+    (taken_given g.C.Cursor.gives c.deref.result.now now new entry some) (bared_alike old.alone entry entry.body c.in-Some-bare.entry (sym kept))

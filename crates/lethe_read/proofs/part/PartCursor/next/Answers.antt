@@ -1,7 +1,8 @@
-use Rattle.std.proofs.Common.{◌≡◌, ◌-◌, ◌∷◌, Option, Ok, reverse, set, refl, sym, ap, ◌∙◌, arith}
-use Rattle.std.specs.Prelude.{All, flat_map}
+use Rattle.std.proofs.Common.{◌≡◌, ◌-◌, ◌∷◌, Option, Ok, reverse, set, refl, sym, ap, subst, ◌∙◌, arith}
+use Rattle.std.specs.Prelude.{All, Contains, IfSome, flat_map}
 use Rattle.std.proofs.lemmas.List.Elements.{All-set}
 use Rattle.lethe_base.specs.declared.entry.Entry.{Entry}
+use Rattle.lethe_file.proofs.Vouching.{last_given, others_given}
 use Rattle.lethe_read.proofs.Refusals.{cause_handed_on, damage_handed_on}
 use Rattle.lethe_read.proofs.Runs.{all_taken, any_last, any_taken, any_with, left_given, left_taken, of_last, rest_ascends, sum_taken}
 use Rattle.lethe_read.proofs.part.PartCursor.next.Given.{Over}
@@ -61,6 +62,8 @@ loop-cursor-preserved g c =
       );
       fewer = λ name any. before.fewer name
           (any_taken run.items run.len c.in-Some.cursor.now some run.ok.0 c.in-Some.ensures.value c.next.new.self rest c.pop-in-Ok-None.ensures.rest (λ cursor. g.C.Cursor.damages cursor name) any);
+      gives = λ entry any. before.gives entry
+          (any_taken run.items run.len c.in-Some.cursor.now some run.ok.0 c.in-Some.ensures.value c.next.new.self rest c.pop-in-Ok-None.ensures.rest (λ cursor. g.C.Cursor.gives cursor entry) any);
       fetched = omega (arith, before.fetched, c.in-Ok-None.ensures.fetches);
       risen = omega (arith, before.risen, c.in-Ok-None.ensures.cause.later);
     }
@@ -77,3 +80,22 @@ pub returns-in-Err-clause-cause : goal.returns-in-Err-clause-cause
 returns-in-Err-clause-cause g c =
     cause_handed_on (g.D.Disk.port_faults c.args.port.now) (g.D.Disk.port_faults c.loop-cursor.port) (g.D.Disk.port_faults c.next.new.port) c.port_faults-before.result c.in-Err.why c.since.result
     c.port_faults-before.ensures c.since.ensures c.loop-cursor.invariant.risen c.in-Err.ensures.cause
+
+pub returns-in-Ok-Some-clause-among : goal.returns-in-Ok-Some-clause-among
+returns-in-Ok-Some-clause-among g c = rw c.in-Filed.is (
+    let run = c.loop-cursor.cursors in
+    let entry = c.in-Ok-Some.entry in
+    let gives = subst (λ (o : Option Entry). IfSome o (g.C.Cursor.gives c.in-Some.cursor.now)) c.in-Ok-Some.field-0-is c.in-Ok-Some.ensures.among in
+    c.loop-cursor.invariant.gives entry (any_last run.items run.len c.in-Some.cursor.now (c.in-Some.ensures.variant.0 refl) run.ok.0 c.in-Some.ensures.value (λ cursor. g.C.Cursor.gives cursor entry) gives))
+
+pub returns-in-Ok-Some-clause-no_more : goal.returns-in-Ok-Some-clause-no_more
+returns-in-Ok-Some-clause-no_more g c = rw c.in-Filed.is (λ entry any.
+    let run = c.loop-cursor.cursors in
+    c.loop-cursor.invariant.gives entry (any_with run.items run.len c.in-Some.cursor.now (c.in-Some.ensures.variant.0 refl) run.ok.0 c.in-Some.ensures.value (λ cursor. g.C.Cursor.gives cursor entry)
+    c.next.new.self (c.in-Ok-Some.ensures.no_more entry) any))
+
+pub returns-in-Buffered-clause-among : goal.returns-in-Buffered-clause-among
+returns-in-Buffered-clause-among g c = rw c.in-Buffered.is (last_given c.in-Buffered.entries.items c.pop.new.self.items c.pop.result c.pop.ensures.items (Contains c.in-Buffered.entries.items) (λ entry has. has))
+
+pub returns-in-Buffered-clause-no_more : goal.returns-in-Buffered-clause-no_more
+returns-in-Buffered-clause-no_more g c = rw c.in-Buffered.is (λ entry has. others_given c.in-Buffered.entries.items c.pop.new.self.items c.pop.result c.pop.ensures.items entry has)

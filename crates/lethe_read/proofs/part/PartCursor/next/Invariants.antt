@@ -1,5 +1,6 @@
 use Rattle.std.proofs.Common.{◌≡◌, ◌+◌, ◌≤◌, length, reverse}
 use Rattle.std.specs.Prelude.{All, Any, flat_map, sum_by}
+use Rattle.lethe_base.specs.declared.entry.Entry.{Entry}
 use Rattle.lethe_base.specs.declared.name.Name.{Name}
 use Rattle.lethe_read.proofs.part.PartCursor.next.Given as goal
 
@@ -12,6 +13,7 @@ invariant-loop-cursor g l = record {
       → flat_map g.C.Cursor.left (reverse l.cursors.items) ≡ flat_map g.C.Cursor.left (reverse l.initial.cursors.items);
   awaited : g.D.Disk.fetches l.port + sum_by g.C.Cursor.awaits l.cursors.items ≡ g.D.Disk.fetches l.initial.port + sum_by g.C.Cursor.awaits l.initial.cursors.items;
   fewer : (name : Name) → Any (λ cursor. g.C.Cursor.damages cursor name) l.cursors.items → Any (λ cursor. g.C.Cursor.damages cursor name) l.initial.cursors.items;
+  gives : (entry : Entry) → Any (λ cursor. g.C.Cursor.gives cursor entry) l.cursors.items → Any (λ cursor. g.C.Cursor.gives cursor entry) l.initial.cursors.items;
   fetched : g.D.Disk.fetches l.initial.port ≤ g.D.Disk.fetches l.port;
   risen : g.D.Disk.port_faults l.initial.port ≤ g.D.Disk.port_faults l.port;
 }
