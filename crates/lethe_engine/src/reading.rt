@@ -1,10 +1,10 @@
 //! Reads of a store.
-ghost use Rattle.std.specs.Prelude.{◌≡◌, ◌<◌, ◌≤◌, ◌+◌, ℕ, true, false, IfOk, IfErr, IfSome, IsErrOf, OnOk, sum_by, if◌then◌else◌};
+ghost use Rattle.std.specs.Prelude.{Contains, ◌≡◌, ◌<◌, ◌≤◌, ◌+◌, ℕ, true, false, IfOk, IfErr, IfSome, IsErrOf, OnOk, sum_by, if◌then◌else◌};
 ghost use Rattle.std.specs.Ordering.{is_lt};
 ghost use Rattle.std.specs.Result.{result_err};
 ghost use Rattle.lethe_base.specs.Counts.{Rose};
 ghost use Rattle.lethe_base.specs.History.{History, after};
-ghost use Rattle.lethe_base.specs.Keys.{key_cmp};
+ghost use Rattle.lethe_base.specs.Keys.{Bytes, key_cmp};
 ghost use Rattle.lethe_base.specs.Matching.{answer_under};
 ghost use Rattle.lethe_base.specs.Read.{Get, Scan, Found, answer};
 ghost use Rattle.lethe_base.specs.declared.call.Call.TheVariants.{Work};
@@ -104,8 +104,11 @@ impl<D: Disk> Engine<D> {
         ensures answer { D.tells → (config : Fields) (h : History) → StandsNow config h (view_of self.now.core)
             → IfOk result (λ pairs. answer (after h) (Scan lo.now hi.now) ≡ listed pairs.items) }
 
-        // On any disk.
+        // On any disk each pair stands in an entry of its key that a buffer has, or for which a line of one of the files vouches by its digest.
         ensures between { IfOk result (λ pairs. AreListedBetween lo.now hi.now pairs.items) }
+        ensures backed { IfOk result (λ pairs. (pair : Bytes × ℕ × Bytes) → Contains pairs.items pair
+            → IsBacked pair.0 self.now.core.state.active.entries (frozen_entries (λ buffer. buffer.entries) self.now.core.state.frozen)
+            (IsVouchedBy self.now.core.version) (pair.1, pair.2)) }
 
         // Each page of a tile that meets the range is fetched once, and no other page; nothing is fetched where `lo` isn't below `hi`.
         ensures fetches { is_lt (key_cmp lo.now hi.now) ≡ true → OnOk result (D.fetches port.new ≡ D.fetches port.old + pages_between lo.now hi.now self.now.core.version) }

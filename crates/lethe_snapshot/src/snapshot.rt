@@ -1,8 +1,8 @@
 //! What a store held at a point.
-ghost use Rattle.std.specs.Prelude.{◌≡◌, ◌<◌, ◌≤◌, ◌+◌, ℕ, true, false, sum_by, IfErr, IfOk, IfSome, OnOk, IsErrOf, if◌then◌else◌};
+ghost use Rattle.std.specs.Prelude.{Contains, ◌≡◌, ◌<◌, ◌≤◌, ◌+◌, ℕ, true, false, sum_by, IfErr, IfOk, IfSome, OnOk, IsErrOf, if◌then◌else◌};
 ghost use Rattle.std.specs.Ordering.{is_lt};
 ghost use Rattle.lethe_base.specs.Counts.{Rose};
-ghost use Rattle.lethe_base.specs.Keys.{key_cmp};
+ghost use Rattle.lethe_base.specs.Keys.{Bytes, key_cmp};
 ghost use Rattle.lethe_base.specs.History.{History, after};
 ghost use Rattle.lethe_base.specs.Matching.{answer_under};
 ghost use Rattle.lethe_base.specs.Read.{Get, Scan, Found, Listed, answer};
@@ -122,8 +122,10 @@ impl<D: Disk> Snapshot<D> {
         ensures can_fail { (before after : ℕ) → IsErrOf result (ReadFault before after) → D.ports_fail }
         ensures faults { D.port_faults port.old ≤ D.port_faults port.new }
 
-        // On any disk.
+        // On any disk each pair stands in an entry of its key that a buffer had, or for which a line of one of the files vouches by its digest.
         ensures between { IfOk result (λ pairs. AreListedBetween lo.now hi.now pairs.items) }
+        ensures backed { IfOk result (λ pairs. (pair : Bytes × ℕ × Bytes) → Contains pairs.items pair
+            → IsBacked pair.0 self.now.active.entries (frozen_entries (λ buffer. buffer.entries) self.now.frozen) (IsVouchedBy self.now.version) (pair.1, pair.2)) }
 
         // Each page of a tile that meets the range is fetched once, and no other page; nothing is fetched where `lo` isn't below `hi`.
         ensures fetches { is_lt (key_cmp lo.now hi.now) ≡ true → OnOk result (D.fetches port.new ≡ D.fetches port.old + pages_between lo.now hi.now self.now.version) }

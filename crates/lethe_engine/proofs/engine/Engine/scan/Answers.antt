@@ -1,9 +1,12 @@
-use Rattle.std.proofs.Common.{Some, None, Err, ap, sym, ◌∙◌}
+use Rattle.std.proofs.Common.{Option, Some, None, Err, ap, sym, ◌∙◌, subst}
 use Rattle.std.specs.Option.{option_copied}
 use Rattle.lethe_base.specs.declared.call.Call.TheVariants.{Work}
 use Rattle.lethe_core.specs.Asked.{Serves, failure_of}
 use Rattle.lethe_core.specs.View.{view_of}
+use Rattle.lethe_mem.specs.Buffered.{Buffered}
+use Rattle.lethe_read.specs.Found.{IsBacked, frozen_entries}
 use Rattle.lethe_read.proofs.Refusals.{damage_told, err_told, fault_told}
+use Rattle.lethe_version.specs.Versions.{IsVouchedBy}
 use Rattle.lethe_engine.proofs.Answering.{files_sound, listed_between, stored_sound}
 use Rattle.lethe_engine.proofs.Calls.{itself_answers, refused_is_none, served_is_none}
 use Rattle.lethe_engine.proofs.Reasons.{no_failure_of_read}
@@ -14,6 +17,15 @@ returns-in-Ok-clause-answer g c = λ told config h stands.
     let core = c.args.self.now.core in
     listed_between core config h stands (option_copied c.frozen.result) c.pending.result.now c.frozen.ensures c.pending.ensures c.args.lo.now c.args.hi.now c.in-Ok.pairs.items
     (rw c.active.ensures at (c.in-Ok.ensures.listed told (stored_sound core config h stands)))
+
+pub returns-in-Ok-clause-backed : goal.returns-in-Ok-clause-backed
+returns-in-Ok-clause-backed g c = λ pair there.
+    let core = c.args.self.now.core in
+    let frozen = option_copied c.frozen.result in
+    subst (λ (frozen : Option Buffered). IsBacked pair.0 core.state.active.entries (frozen_entries (λ (buffer : Buffered). buffer.entries) frozen) (IsVouchedBy core.version) (pair.1, pair.2))
+    c.frozen.ensures
+    (subst (λ (active : Buffered). IsBacked pair.0 active.entries (frozen_entries (λ (buffer : Buffered). buffer.entries) frozen) (IsVouchedBy core.version) (pair.1, pair.2)) c.active.ensures
+    (c.in-Ok.ensures.backed pair there))
 
 pub returns-in-Err-clause-undamaged : goal.returns-in-Err-clause-undamaged
 returns-in-Err-clause-undamaged g c = λ told sound name is.
