@@ -19,8 +19,14 @@ pub fn first_stray(names: &[Name]) -> Option<Name>
     if has_gate(names) {
         None
     } else {
-        names.iter().copied().find(|name| is_stray(*name))
+        first_of(names)
     }
+}
+
+fn first_of(names: &[Name]) -> Option<Name>
+    ensures { result ≡ find is_stray names.now }
+{
+    names.iter().copied().find(|name| is_stray(*name))
 }
 
 fn has_gate(names: &[Name]) -> bool
