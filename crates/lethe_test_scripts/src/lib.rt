@@ -6,6 +6,8 @@ mod counting;
 #[cfg(test)]
 mod faults;
 #[cfg(test)]
+mod limits;
+#[cfg(test)]
 mod options;
 #[cfg(test)]
 mod phases;
