@@ -35,9 +35,9 @@ repinned_answers Tells why old new sound same now none =
 
 -- the pins behind a call that makes one
 pub pinned_by : {D Page Port : Type 0} {kind : Ghosts D Page Port} (old new : Core D Page Port kind) (result : Result (Snapshot D Page Port kind) Refused) → new ≡ record old { pins = new.pins }
-    → IfOk result (λ snapshot. snapshot.number ≡ old.pins.made + 1) → IfOk result (λ snapshot. IsPinOf (view_of old) (view_of new) snapshot.number snapshot.limit) → OnErr result (new ≡ old)
+    → IfOk result (λ snapshot. snapshot.pin.number ≡ old.pins.made + 1) → IfOk result (λ snapshot. IsPinOf (view_of old) (view_of new) snapshot.pin.number snapshot.pin.limit) → OnErr result (new ≡ old)
     → face_of (view_of new) ≡ pinned_face (face_of (view_of old)) result
-pinned_by old new (Ok snapshot) same number pinned unchanged = pinned_face_is (view_of old) (view_of new) snapshot.number snapshot.limit (ap view_of same) number pinned
+pinned_by old new (Ok snapshot) same number pinned unchanged = pinned_face_is (view_of old) (view_of new) snapshot.pin.number snapshot.pin.limit (ap view_of same) number pinned
 pinned_by old new (Err why) same number pinned unchanged = ap (λ core. face_of (view_of core)) unchanged
 
 -- a pin that is refused is in no history, nor is one that is made

@@ -14,7 +14,7 @@ returns-clause-answers g c =
     let new = c.release_now.new.self in
     let is = c.release_now.ensures.same in
     let same : new ≡ record core { pins = new.pins } = is ∙ ap (λ pins. record core { pins = pins }) (sym (ap (λ core. core.pins) is)) in
-    subst (λ face. Answers g.D.Disk.tells (Serves Work) None face (view_of core) (view_of new)) (released_face_is (view_of core) (view_of new) c.args.snapshot.number (ap view_of is))
+    subst (λ face. Answers g.D.Disk.tells (Serves Work) None face (view_of core) (view_of new)) (released_face_is (view_of core) (view_of new) c.args.snapshot.pin.number (ap view_of is))
     (repinned_answers g.D.Disk.tells None (view_of core) (view_of new) c.release_now.ensures.sound (ap view_of same) c.release_now.ensures.stands (served_is_none Work))
 
 pub returns-clause-same : goal.returns-clause-same
