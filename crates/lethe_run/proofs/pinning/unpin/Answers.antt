@@ -31,7 +31,7 @@ returns-clause-served g c = λ told begin from h caller on.
     let old = view_of c.args.engine.now.core in
     let new = view_of c.release.new.self.core in
     let is = c.release.ensures in
-    unpin_served g.D.Disk.ports_fail begin from h caller old new on (looked g.D.Disk.tells told begin from h old new on None (without_pin (face_of old) c.take-snapshot.result.number) is.answers refl) c.args.slot.now c.count.result c.number-number.result
+    unpin_served g.D.Disk.ports_fail begin from h caller old new on (looked g.D.Disk.tells told begin from h old new on None (without_pin (face_of old) c.take-snapshot.result.pin.number) is.answers refl) c.args.slot.now c.count.result c.number-number.result
     (c.count.ensures ∙ (λ i. (is.same i).core.state.count))
 
 pub returns-clause-shown : goal.returns-clause-shown
