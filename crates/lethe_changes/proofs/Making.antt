@@ -1,15 +1,13 @@
 -- A list of changes is made, part by part.
 use Rattle.std.proofs.Common.{◌≡◌, ◌≤◌, ◌⊎◌, inl, inr, ℕ, zero, suc, ◌+◌, List, [], ◌∷◌, ◌++◌, length, map, Option, Some, None, refl, sym, ap, ◌∙◌, subst, arith, append_assoc, append-nil}
-use Rattle.std.specs.Prelude.{Contains, IsSome, IsTrue, false, is_some, option_map, option_to_list, true}
+use Rattle.std.specs.Prelude.{IsSome, IsTrue, false, is_some, option_map, option_to_list, true}
 use mathlib.Core.Bool.{false≢true}
 use Rattle.std.specs.Option.{option_map_or}
 use Rattle.std.specs.List.{range_with_len}
 use Rattle.std.proofs.lemmas.List.{length-append, map-append}
 use Rattle.lethe_base.specs.Counts.{Rose}
 use Rattle.lethe_base.specs.History.{History}
-use Rattle.lethe_base.specs.declared.call.Call.{Call}
 use Rattle.lethe_base.specs.declared.config.Fields.{Fields}
-use Rattle.lethe_base.specs.declared.name.Name.{Name}
 use Rattle.lethe_base.specs.declared.refused.Refused.{Refused}
 use Rattle.lethe_base.specs.declared.refused.Refused.TheVariants.{Fault, Stopped, Backwards, Pinned, NothingDue, Cancelled, Exhausted, ReadFault, NoMemory, Damaged}
 use Rattle.lethe_cert.specs.declared.certificate.Certificate.{Certificate}
@@ -24,22 +22,17 @@ use Rattle.lethe_core.specs.Running.{Holds, IsSound}
 use Rattle.lethe_core.specs.View.{Face, Flying, View, face_of}
 use Rattle.lethe_manifest.specs.declared.manifest.Manifest.{Manifest}
 use Rattle.lethe_pins.specs.Held.{Held, is_named}
-use Rattle.lethe_pins.specs.declared.pin.Pin.{Pin}
 use Rattle.lethe_state.specs.Records.{headers_in}
 use Rattle.lethe_state.specs.Remembered.{Remembers}
-use Rattle.lethe_state.specs.declared.state.State.{State}
 use Rattle.lethe_stored.specs.Kept.{IsKept}
 use Rattle.lethe_stored.specs.Left.{IsKeptOr}
 use Rattle.lethe_stored.specs.Numbers.{GoesFrom}
 use Rattle.lethe_stored.specs.Files.{Parts}
-use Rattle.lethe_stored.specs.Levels.{HasFiles}
-use Rattle.lethe_stored.specs.Stored.{Stored, appended}
-use Rattle.lethe_segment.specs.declared.record.Record.{Record}
-use Rattle.lethe_state.specs.Room.{HasRoom}
-use Rattle.lethe_core.specs.Merges.{AreRetiredBehind, IsCleared, IsRoomBegun, IsRoomMadeBy, Outcome, pages_of}
-use Rattle.lethe_core.proofs.Roomed.{sees_room}
+use Rattle.lethe_stored.specs.Stored.{Stored}
+use Rattle.lethe_core.specs.Merges.{IsRoomBegun}
+use Rattle.lethe_core.proofs.Retired.{retired_same, retired_then}
 use Rattle.lethe_stored.proofs.Numbers.{goes_from_then, goes_from_weaker}
-use Rattle.lethe_row.specs.Along.{AreAppended, HasGrown, IsAtEnd, IsKeptAlong, IsRecordOver, calls_of, row_behind, tried, with_all}
+use Rattle.lethe_row.specs.Along.{AreAppended, HasGrown, IsAtEnd, IsKeptAlong, calls_of, row_behind, tried, with_all}
 use Rattle.lethe_core.proofs.Standing.{stands_moments}
 use Rattle.lethe_row.specs.Rows.{call_of}
 use Rattle.lethe_row.specs.declared.asking.Asked.{Asked}
@@ -51,7 +44,7 @@ use Rattle.lethe_engine.specs.Rows.{AnswersRow}
 use Rattle.lethe_engine.specs.StandsFor.{IsKeptFor, Opened, StandsFor, StandsSince}
 use Rattle.lethe_engine.proofs.Calls.{goes_by, idle_itself}
 use Rattle.lethe_engine.proofs.Certified.{still_all_certified}
-use Rattle.lethe_changes.specs.Changes.{AnswersAll, AreMade, HaveRoom, IsBehind, IsEndedAt, IsMadeAlone, IsRound, IsRowOver, IsWritten, Point, PortCounts, Round, changes_in, failed_of, point_of}
+use Rattle.lethe_changes.specs.Changes.{AnswersAll, HaveRoom, IsBehind, IsEndedAt, IsWritten, Point, PortCounts, failed_of, point_of}
 use Rattle.lethe_changes.proofs.Rounds.{AreRounds, none_made_stopped, row_over}
 
 -- any directory
@@ -164,16 +157,8 @@ not_some None none = refl
 not_some (Some x) none = absurd (none refl)
 
 -- what is retired stays so, or is named by a pin, and so on
-retired_then : (old mid new : View) → mid.pins ≡ old.pins → AreRetiredFrom old.pins.pins old.retired mid.retired → AreRetiredFrom mid.pins.pins mid.retired new.retired → AreRetiredFrom old.pins.pins old.retired new.retired
-retired_then old mid new pins was is name there = by (subst (λ (held : Held). Contains mid.retired name ⊎ IsTrue (is_named held.pins name)) pins (is name there))
-  where
-    by : Contains mid.retired name ⊎ IsTrue (is_named old.pins.pins name) → Contains old.retired name ⊎ IsTrue (is_named old.pins.pins name)
-    by (inl before) = was name before
-    by (inr named) = inr named
-
--- a row retires none
-retired_same : (pins : List Pin) (before now : List Name) → now ≡ before → AreRetiredFrom pins before now
-retired_same pins before now same name there = inl (subst (λ names. Contains names name) same there)
+retired_since : (old mid new : View) → mid.pins ≡ old.pins → AreRetiredFrom old.pins.pins old.retired mid.retired → AreRetiredFrom mid.pins.pins mid.retired new.retired → AreRetiredFrom old.pins.pins old.retired new.retired
+retired_since old mid new pins was is = retired_then old.pins.pins old.retired mid.retired new.retired was (subst (λ (held : Held). AreRetiredFrom held.pins mid.retired new.retired) pins is)
 
 -- what pins name goes on as it is
 kept_then : (old mid new : View) → mid.pins ≡ old.pins → AreKept old.pins.pins old.disk.directory mid.disk.directory → AreKept mid.pins.pins mid.disk.directory new.disk.directory → AreKept old.pins.pins old.disk.directory new.disk.directory
@@ -364,7 +349,7 @@ module _ (Tells PortsFail : Type 0) (old : View) (asked made left : List Asked) 
           later = λ told. let was = so_far.later told in let more = row.later told in omega (arith, was, more);
           face = row.face_is ∙ so_far.face;
           pins = pins ∙ so_far.pins;
-          retired = retired_then old mid new so_far.pins so_far.retired (retired_same mid.pins.pins mid.retired new.retired row.retired);
+          retired = retired_since old mid new so_far.pins so_far.retired (retired_same mid.pins.pins mid.retired new.retired row.retired);
           pinned = λ told. kept_then old mid new so_far.pins (so_far.pinned told) (row.row.pinned told);
         }
 
@@ -480,7 +465,7 @@ module _ (Tells PortsFail : Type 0) (old : View) (asked made left : List Asked) 
           drawn = let was = so_far.drawn in let more = row.drawn in omega (arith, was, more);
           later = λ told. let was = so_far.later told in let more = row.later told in omega (arith, was, more);
           face_is = row.face_is ∙ so_far.face;
-          retired = retired_then old mid new so_far.pins so_far.retired (retired_same mid.pins.pins mid.retired new.retired row.retired);
+          retired = retired_since old mid new so_far.pins so_far.retired (retired_same mid.pins.pins mid.retired new.retired row.retired);
           pinned = λ told. kept_then old mid new so_far.pins (so_far.pinned told) (row.row.pinned told);
         }
     row_refused first now since pins head NoMemory row =
@@ -539,7 +524,7 @@ module _ (Tells PortsFail : Type 0) (old : View) (asked made left : List Asked) 
           drawn = let was = so_far.drawn in let more = row.drawn in omega (arith, was, more);
           later = λ told. let was = so_far.later told in let more = row.later told in omega (arith, was, more);
           face_is = row.face_is ∙ so_far.face;
-          retired = retired_then old mid new so_far.pins so_far.retired (retired_same mid.pins.pins mid.retired new.retired row.retired);
+          retired = retired_since old mid new so_far.pins so_far.retired (retired_same mid.pins.pins mid.retired new.retired row.retired);
           pinned = λ told. kept_then old mid new so_far.pins (so_far.pinned told) (row.row.pinned told);
         }
     row_refused first now since pins head (Stopped at) row = absurd row.row.ended
@@ -585,7 +570,7 @@ module _ (Tells PortsFail : Type 0) (old : View) (asked made left : List Asked) 
     one_kept why says told = kept_then old mid new so_far.pins (so_far.pinned told) (λ name named. says.pinned told name named (subst (λ (held : Held). IsTrue (is_named held.pins name)) (sym pins) named))
 
     one_retired : (why : Option Refused) → Answers Tells (Makes (call_of next)) why (face_of mid) mid new → AreRetiredFrom old.pins.pins old.retired new.retired
-    one_retired why says = retired_then old mid new so_far.pins so_far.retired says.retired
+    one_retired why says = retired_since old mid new so_far.pins so_far.retired says.retired
 
     pub one_made : Answers Tells (Makes (call_of next)) None (face_of mid) mid new → IsMade Tells old asked (made ++ next ∷ []) more new
     one_made says = record {

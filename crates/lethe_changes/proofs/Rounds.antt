@@ -1,57 +1,27 @@
 -- The rounds that changes were made in: a row as far as it goes, and the one behind it by itself.
-use Rattle.std.proofs.Common.{◌≡◌, ◌≤◌, ◌⊎◌, inl, inr, ℕ, zero, suc, ◌+◌, List, [], ◌∷◌, ◌++◌, length, map, Option, Some, None, refl, sym, ap, ◌∙◌, subst, arith, append_assoc, append-nil}
-use Rattle.std.specs.Prelude.{Contains, IsSome, IsTrue, false, is_some, option_map, option_to_list, true}
-use mathlib.Core.Bool.{false≢true}
-use Rattle.std.specs.Option.{option_map_or}
-use Rattle.std.specs.List.{range_with_len}
-use Rattle.std.proofs.lemmas.List.{length-append, map-append}
-use Rattle.lethe_base.specs.Counts.{Rose}
-use Rattle.lethe_base.specs.History.{History}
+use Rattle.std.proofs.Common.{◌≡◌, ◌≤◌, ◌⊎◌, inl, inr, ℕ, ◌+◌, List, [], ◌∷◌, ◌++◌, Option, None, refl, sym, ap, ◌∙◌, subst, arith, append_assoc, append-nil}
+use Rattle.std.specs.Prelude.{IsSome}
 use Rattle.lethe_base.specs.declared.call.Call.{Call}
-use Rattle.lethe_base.specs.declared.config.Fields.{Fields}
-use Rattle.lethe_base.specs.declared.name.Name.{Name}
 use Rattle.lethe_base.specs.declared.refused.Refused.{Refused}
-use Rattle.lethe_base.specs.declared.refused.Refused.TheVariants.{Fault, Stopped, Backwards, Pinned, NothingDue, Cancelled, Exhausted, ReadFault, NoMemory, Damaged}
-use Rattle.lethe_cert.specs.declared.certificate.Certificate.{Certificate}
-use Rattle.lethe_cover.specs.Steps.{with_failed}
-use Rattle.lethe_disk.specs.Directory.{Directory}
-use Rattle.lethe_disk.specs.Disk.{IsIdle, Seen}
-use Rattle.lethe_disk.specs.Goes.{Goes}
-use Rattle.lethe_disk.proofs.Going.{goes_then, goes_weaker}
-use Rattle.lethe_core.specs.Asked.{Failure, Makes, behind, done_by, failure_of, stopped_by}
-use Rattle.lethe_core.specs.Pinned.{AreKept, AreRetiredFrom}
-use Rattle.lethe_core.specs.Running.{Holds, IsSound}
-use Rattle.lethe_core.specs.View.{Face, Flying, View, face_of}
-use Rattle.lethe_manifest.specs.declared.manifest.Manifest.{Manifest}
-use Rattle.lethe_pins.specs.Held.{Held, is_named}
-use Rattle.lethe_pins.specs.declared.pin.Pin.{Pin}
+use Rattle.lethe_core.specs.Asked.{Makes, behind}
+use Rattle.lethe_core.specs.Running.{Holds}
+use Rattle.lethe_core.specs.View.{Face, View}
+use Rattle.lethe_pins.specs.Held.{Held}
 use Rattle.lethe_state.specs.Records.{headers_in}
-use Rattle.lethe_state.specs.Remembered.{Remembers}
 use Rattle.lethe_state.specs.declared.state.State.{State}
-use Rattle.lethe_stored.specs.Kept.{IsKept}
-use Rattle.lethe_stored.specs.Left.{IsKeptOr}
-use Rattle.lethe_stored.specs.Numbers.{GoesFrom}
 use Rattle.lethe_stored.specs.Files.{Parts}
 use Rattle.lethe_stored.specs.Levels.{HasFiles}
 use Rattle.lethe_stored.specs.Stored.{Stored, appended}
 use Rattle.lethe_segment.specs.declared.record.Record.{Record}
 use Rattle.lethe_state.specs.Room.{HasRoom}
-use Rattle.lethe_core.specs.Merges.{AreRetiredBehind, IsCleared, IsRoomBegun, IsRoomMadeBy, Outcome, pages_of}
+use Rattle.lethe_core.specs.Merges.{AreRetiredBehind, IsCleared, IsRoomMadeBy, Outcome, pages_of}
 use Rattle.lethe_core.proofs.Roomed.{sees_room}
-use Rattle.lethe_stored.proofs.Numbers.{goes_from_then, goes_from_weaker}
-use Rattle.lethe_row.specs.Along.{AreAppended, HasGrown, IsAtEnd, IsKeptAlong, IsRecordOver, calls_of, row_behind, tried, with_all}
-use Rattle.lethe_core.proofs.Standing.{stands_moments}
+use Rattle.lethe_row.specs.Along.{IsAtEnd, IsRecordOver}
 use Rattle.lethe_row.specs.Rows.{call_of}
 use Rattle.lethe_row.specs.declared.asking.Asked.{Asked}
-use Rattle.lethe_row.specs.declared.asking.Asked.TheVariants.{Put, Delete, Erase}
-use Rattle.lethe_row.proofs.Along.{along_none, none_made, one_longer, with_one_more}
-use Rattle.lethe_engine.specs.Answers.{Answers, IsBegun, IsStill}
-use Rattle.lethe_engine.specs.Refusals.{HasReasonOfChange}
+use Rattle.lethe_engine.specs.Answers.{Answers}
 use Rattle.lethe_engine.specs.Rows.{AnswersRow}
-use Rattle.lethe_engine.specs.StandsFor.{IsKeptFor, Opened, StandsFor, StandsSince}
-use Rattle.lethe_engine.proofs.Calls.{goes_by, idle_itself}
-use Rattle.lethe_engine.proofs.Certified.{still_all_certified}
-use Rattle.lethe_changes.specs.Changes.{AnswersAll, AreMade, HaveRoom, IsBehind, IsEndedAt, IsMadeAlone, IsRound, IsRowOver, IsWritten, Point, PortCounts, Round, changes_in, failed_of, point_of}
+use Rattle.lethe_changes.specs.Changes.{AreMade, IsMadeAlone, IsRound, IsRowOver, Point, Round, changes_in, point_of}
 
 -- a store that was stopped makes no change
 pub none_made_stopped : (Tells : Type 0) (call : Call) (face : Face) (old new : View) → Answers Tells (Makes call) None face old new → IsSome old.state.stopped → ⊥

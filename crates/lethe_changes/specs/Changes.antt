@@ -180,7 +180,7 @@ pub record AnswersAll (Tells PortsFail : Type 0) (asked : List Asked) (done : �
   pub calls : Tells → refused ≡ None → HaveRoom asked old → new.disk.moment ≡ old.disk.moment + calls_of asked
   pub written : Tells → refused ≡ None → HaveRoom asked old → (s : Stored) → Holds old s → (t : Stored) × AreAppended (headers_in old.levels) s asked t × Holds new t
   pub numbers : Tells → new.state.next + old.disk.moment ≤ old.state.next + new.disk.moment
-  -- no number comes back, nor a moment
+  -- the next number doesn't fall, nor does the moment
   pub drawn : old.state.next ≤ new.state.next
   pub later : Tells → old.disk.moment ≤ new.disk.moment
   pub faults : old.faults ≤ new.faults
