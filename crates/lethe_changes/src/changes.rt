@@ -7,6 +7,7 @@ ghost use Rattle.lethe_base.specs.declared.refused.Refused.TheVariants.{Damaged}
 ghost use Rattle.lethe_core.specs.Asked.{Makes};
 ghost use Rattle.lethe_stored.specs.Stored.{Stored};
 ghost use Rattle.lethe_state.specs.Room.{HasRoom};
+ghost use Rattle.lethe_core.specs.Reasons.{HasDamagedPage};
 ghost use Rattle.lethe_core.specs.Running.{Holds, IsSound};
 ghost use Rattle.lethe_core.specs.View.{face_of, view_of};
 ghost use Rattle.lethe_row.specs.Rows.{call_of};
@@ -49,8 +50,8 @@ pub fn change_all<D: Disk>(
         (counts_of (D.fetches port.new) (D.port_faults port.new)) (view_of engine.old.core) (view_of engine.new.core) }
     ensures places { result.places.items ≡ range_with_len (engine.old.core.state.count + 1) (length result.places.items) }
     ensures port_faults { D.port_faults port.old ≤ D.port_faults port.new }
-    // Where a page is told as damaged, a fetch was made in this call, on any disk.
-    ensures fetched { (name : Name) → result.refused ≡ Some (Damaged name) → D.fetches port.old < D.fetches port.new }
+    // On any disk: where a page is told as damaged, a fetch was made in this call, and it is one of a file of the version behind it.
+    ensures damaged { (name : Name) → result.refused ≡ Some (Damaged name) → HasDamagedPage engine.new.core name × (D.fetches port.old < D.fetches port.new) }
     ensures fetches { D.fetches port.old ≤ D.fetches port.new }
     ensures certificates { engine.new.certificates ≡ engine.old.certificates }
     ensures pins { engine.new.core.pins ≡ engine.old.core.pins }
@@ -80,7 +81,7 @@ fn make_all<D: Disk>(
     ensures answers { AnswersAll D.tells D.ports_fail asked.items result.done result.refused (counts_of (D.fetches port.old) (D.port_faults port.old))
         (counts_of (D.fetches port.new) (D.port_faults port.new)) (view_of engine.old.core) (view_of engine.new.core) }
     ensures port_faults { D.port_faults port.old ≤ D.port_faults port.new }
-    ensures fetched { (name : Name) → result.refused ≡ Some (Damaged name) → D.fetches port.old < D.fetches port.new }
+    ensures damaged { (name : Name) → result.refused ≡ Some (Damaged name) → HasDamagedPage engine.new.core name × (D.fetches port.old < D.fetches port.new) }
     ensures fetches { D.fetches port.old ≤ D.fetches port.new }
     ensures certificates { engine.new.certificates ≡ engine.old.certificates }
     ensures pins { engine.new.core.pins ≡ engine.old.core.pins }
@@ -129,7 +130,7 @@ fn change_one<D: Disk>(
         → OnOk result ((t : Stored)
         × IsMadeAlone (view_of engine.old.core) (point_of s (view_of engine.old.core) (D.fetches port.old)) change (point_of t (view_of engine.new.core) (D.fetches port.new))
         × Holds (view_of engine.new.core) t) }
-    ensures fetched { (name : Name) → IsErrOf result (Damaged name) → D.fetches port.old < D.fetches port.new }
+    ensures damaged { (name : Name) → IsErrOf result (Damaged name) → HasDamagedPage engine.new.core name × (D.fetches port.old < D.fetches port.new) }
     ensures fetches { D.fetches port.old ≤ D.fetches port.new }
     ensures certificates { engine.new.certificates ≡ engine.old.certificates }
     ensures pins { engine.new.core.pins ≡ engine.old.core.pins }

@@ -32,7 +32,7 @@ pub mod Outcomes
 pub mod Behind
 pub mod Installing
 pub mod Unread
-pub mod Fetched
+pub mod Damaged
 pub mod Roomed
 pub mod Chosen
 pub mod SweptPuts

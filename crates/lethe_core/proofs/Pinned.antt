@@ -40,7 +40,7 @@ use Rattle.lethe_stored.proofs.FileFacts.{as_many, entries_are}
 use Rattle.lethe_stored.proofs.Leveled.{from_filter, low_level}
 use Rattle.lethe_stored.proofs.Lists.{in_flat, no_pairs}
 use Rattle.lethe_install.proofs.Parted.{same_name}
-use Rattle.lethe_pins.specs.Held.{AreHeld, Ascend, Held, is_named, placed, without}
+use Rattle.lethe_pins.specs.Held.{AreHeld, Ascend, Held, is_named, placed, placed_by, without}
 use Rattle.lethe_pins.specs.declared.pin.Pin.{Pin}
 use Rattle.lethe_pins.proofs.Placed.{all_placed}
 use Rattle.lethe_state.specs.Remembered.{Remembers}
@@ -48,11 +48,11 @@ use Rattle.lethe_state.proofs.Leveled.{parts_from, parts_to}
 use Rattle.lethe_core.specs.Pinned.{AreTimely, IsPageIn, IsPageUntil, pages_in}
 use Rattle.lethe_core.specs.Running.{Holds, IsRunning, IsSound}
 use Rattle.lethe_core.specs.StandsNow.{IsOpenOrStopped, StandsNow}
-use Rattle.lethe_core.specs.View.{View, face_of, limited_of}
+use Rattle.lethe_core.specs.View.{Limited, View, face_of, limited_of}
 use Rattle.lethe_core.proofs.Paged.{page_of}
 use Rattle.lethe_core.proofs.Standing.{stands_for, stands_holds}
 use Rattle.lethe_core.proofs.Timely.{named_there, there_named}
-use Rattle.lethe_core.specs.Pins.{IsPinOf, placed_by_limit, with_pin, without_pin}
+use Rattle.lethe_core.specs.Pins.{IsPinOf, with_pin, without_pin}
 
 -- Some element of a list
 
@@ -369,13 +369,13 @@ module _ (view : View) (number : ℕ) where
 
 -- What a user sees of the pins that are held, where one comes and where one goes
 
-pub limited_placed : (pin : Pin) (pins : List Pin) → map limited_of (placed pin pins) ≡ placed_by_limit (limited_of pin) (map limited_of pins)
+pub limited_placed : (pin : Pin) (pins : List Pin) → map limited_of (placed pin pins) ≡ placed_by (λ (limited : Limited). limited.limit) (limited_of pin) (map limited_of pins)
 limited_placed pin [] = refl
 limited_placed pin (first ∷ pins) = by (ltb pin.limit first.limit) (limited_placed pin pins)
   where
-    by : (b : Bool) → map limited_of (placed pin pins) ≡ placed_by_limit (limited_of pin) (map limited_of pins)
+    by : (b : Bool) → map limited_of (placed pin pins) ≡ placed_by (λ (limited : Limited). limited.limit) (limited_of pin) (map limited_of pins)
         → map limited_of (cond b (pin ∷ first ∷ pins) (first ∷ placed pin pins))
-        ≡ cond b (limited_of pin ∷ limited_of first ∷ map limited_of pins) (limited_of first ∷ placed_by_limit (limited_of pin) (map limited_of pins))
+        ≡ cond b (limited_of pin ∷ limited_of first ∷ map limited_of pins) (limited_of first ∷ placed_by (λ (limited : Limited). limited.limit) (limited_of pin) (map limited_of pins))
     by true is = refl
     by false is = ap (λ l. limited_of first ∷ l) is
 

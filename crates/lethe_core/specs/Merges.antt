@@ -167,10 +167,11 @@ AreRetiredBehind (outcome ∷ more) pins before retired = AreNamed pins retired
 abbrev pub pages_of : List Outcome → ℕ
 pages_of outcomes = sum_by (λ outcome. reads_of outcome.task) outcomes
 
--- the headers of a task's inputs count no more entries than those of all files that the manifest cites, as readers have them
+-- a task's inputs are some of the files that the manifest cites, as readers have them, and their headers count no more entries than those of all these
 pub record IsTaskOf (view : View) (task : PlainTask) : Type 0 where
   pub files : List StoredFile
   pub cited : AllZip (IsCitedAs view.levels) view.state.manifest.files files
+  pub inputs : All (Contains files) (inputs_in task)
   pub some : counted_in (inputs_in task) ≤ counted_in files
 
 -- The numbers of the objects of the job that is chosen, and of a manifest, can't be drawn. On any disk these are no more than as many entries take as the headers of its inputs count.

@@ -1,9 +1,9 @@
 -- A pin that was made, and the pins that are held with it.
-use Rattle.std.specs.Prelude.{◌≡◌, ◌↔◌, ℕ, ◌+◌, ◌==◌, not, List, [], ◌∷◌, filter, Contains, nat_lt, if◌then◌else◌}
+use Rattle.std.specs.Prelude.{◌≡◌, ◌↔◌, ℕ, ◌+◌, ◌==◌, not, List, filter, Contains}
 use Rattle.lethe_base.specs.declared.name.Name.{Name}
-use Rattle.lethe_pins.specs.Held.{placed}
+use Rattle.lethe_pins.specs.Held.{placed, placed_by}
 use Rattle.lethe_core.specs.Pinned.{IsPageIn}
-use Rattle.lethe_core.specs.View.{Face, Limited, View}
+use Rattle.lethe_core.specs.View.{Face, View}
 
 -- The pin of this number and this limit came to those that are held, in its place. It names the pages of the store's files, and nothing else.
 pub record IsPinOf (old new : View) (number limit : ℕ) : Type 0 where
@@ -11,14 +11,9 @@ pub record IsPinOf (old new : View) (number limit : ℕ) : Type 0 where
   pub pages : (name : Name) → Contains names name ↔ IsPageIn old.levels name
   pub is : new.pins ≡ record { pins = placed (record { number = number; names = names; limit = limit }) old.pins.pins; made = number }
 
--- with a pin that was made after all of these: it comes before the first of a greater limit
-abbrev pub placed_by_limit : Limited → List Limited → List Limited
-placed_by_limit pin [] = pin ∷ []
-placed_by_limit pin (first ∷ pins) = if nat_lt pin.limit first.limit then pin ∷ first ∷ pins else first ∷ placed_by_limit pin pins
-
 -- one pin more was made, which has the next number and is held with this limit
 abbrev pub with_pin : Face → ℕ → Face
-with_pin face limit = record face { made = face.made + 1; held = placed_by_limit (record { number = face.made + 1; limit = limit }) face.held }
+with_pin face limit = record face { made = face.made + 1; held = placed_by (λ pin. pin.limit) (record { number = face.made + 1; limit = limit }) face.held }
 
 -- the pin of this number is held no more
 abbrev pub without_pin : Face → ℕ → Face

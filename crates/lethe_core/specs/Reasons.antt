@@ -2,13 +2,17 @@
 use Rattle.std.specs.Prelude.{◌≡◌, ◌⊎◌, ℕ, ◌+◌, Option, Some, None}
 use Rattle.lethe_base.specs.Counts.{Rose}
 use Rattle.lethe_base.specs.Limits.{max_place}
+use Rattle.lethe_base.specs.declared.name.Name.{Name}
 use Rattle.lethe_base.specs.declared.refused.Refused.{Refused}
 use Rattle.lethe_base.specs.declared.refused.Refused.TheVariants.{Fault, Stopped, Backwards, Pinned, NothingDue, Cancelled, Exhausted, ReadFault, NoMemory, Damaged}
+use Rattle.lethe_disk.specs.declared.disk.Disk.{Ghosts}
 use Rattle.lethe_mem.specs.Buffered.{Buffered}
+use Rattle.lethe_version.specs.Versions.{IsDamagedInAny}
 use Rattle.lethe_state.specs.Room.{IsShortBy, IsShortToFreeze}
 use Rattle.lethe_state.specs.declared.state.State.{State}
 use Rattle.lethe_core.specs.Merges.{IsShortToMerge}
 use Rattle.lethe_core.specs.View.{View}
+use Rattle.lethe_core.specs.declared.holding.Core.{Core}
 
 -- Why a change or work was refused that reads no file, by the disk's counts of faults before and now: an earlier one failed, the places are used up or
 -- numbers are short, the disk failed in this call, or there was no memory.
@@ -37,6 +41,10 @@ IsUnreadable Tells PortsFail before now (Backwards clock) = ⊥
 IsUnreadable Tells PortsFail before now (Pinned pin limit) = ⊥
 IsUnreadable Tells PortsFail before now NothingDue = ⊥
 IsUnreadable Tells PortsFail before now (Cancelled begun other) = ⊥
+
+-- a page of one of its files is told as damaged by the name: it is another one than was written
+abbrev pub HasDamagedPage : {D Page Port : Type 0} {disk : Ghosts D Page Port} → Core D Page Port disk → Name → Type 0
+HasDamagedPage core name = IsDamagedInAny core.version name
 
 -- the same refusal of several reads, with the count of a port's faults before the first of them
 abbrev pub told_since : ℕ → Refused → Refused

@@ -17,7 +17,7 @@ ghost use Rattle.lethe_core.specs.Keeps.{Keeps, MayStep};
 ghost use Rattle.lethe_core.specs.Merges.{AreOutcomesBy, AreSomeOutcomesBy, HasNoMergeBy, IsOutcomeBy, IsShortToMergeBy, chosen_by, due_choice};
 ghost use Rattle.lethe_core.specs.Merges.{IsCrowded, IsMergedInPart, IsShortToMerge, IsUncrowded, AreRetiredBehind, MayMerge, Outcome, pages_of};
 ghost use Rattle.lethe_core.specs.Pinned.{AreNamed};
-ghost use Rattle.lethe_core.specs.Reasons.{HasReason, IsUnreadable, told_since};
+ghost use Rattle.lethe_core.specs.Reasons.{HasDamagedPage, HasReason, IsUnreadable, told_since};
 ghost use Rattle.lethe_core.specs.Running.{Holds, IsSound};
 ghost use Rattle.lethe_core.specs.StandsNow.{IsCounted, StandsNow};
 ghost use Rattle.lethe_core.specs.Steps.{IsDoneInPart, IsSteady, IsUndone};
@@ -55,8 +55,8 @@ impl<D: Disk> Core<D> {
         ensures flight { self.new.flight ≡ self.old.flight }
         ensures begun { self.new.begun ≡ self.old.begun }
         ensures port_faults { D.port_faults port.old ≤ D.port_faults port.new }
-        // Where a page is told as damaged, a fetch was made in this call, on any disk.
-        ensures fetched { (name : Name) → IsErrOf result (refused.Damaged name) → D.fetches port.old < D.fetches port.new }
+        // On any disk: where a page is told as damaged, a fetch was made in this call, and it is one of a file of the version behind it.
+        ensures damaged { (name : Name) → IsErrOf result (refused.Damaged name) → HasDamagedPage self.new name × (D.fetches port.old < D.fetches port.new) }
         ensures fetches { D.fetches port.old ≤ D.fetches port.new }
     {
         if self.flight.is_some() || !self.is_crowded() {
@@ -86,8 +86,8 @@ impl<D: Disk> Core<D> {
         ensures free { self.new.flight ≡ None }
         ensures begun { self.new.begun ≡ self.old.begun }
         ensures port_faults { D.port_faults port.old ≤ D.port_faults port.new }
-        // Where a page is told as damaged, a fetch was made in this call, on any disk.
-        ensures fetched { (name : Name) → IsErrOf result (refused.Damaged name) → D.fetches port.old < D.fetches port.new }
+        // On any disk: where a page is told as damaged, a fetch was made in this call, and it is one of a file of the version behind it.
+        ensures damaged { (name : Name) → IsErrOf result (refused.Damaged name) → HasDamagedPage self.new name × (D.fetches port.old < D.fetches port.new) }
         ensures fetches { D.fetches port.old ≤ D.fetches port.new }
     {
         self.merge_all(alloc, port, before, Choice::DueAt(to))
@@ -123,8 +123,8 @@ impl<D: Disk> Core<D> {
         ensures free { self.new.flight ≡ None }
         ensures begun { self.new.begun ≡ self.old.begun }
         ensures port_faults { D.port_faults port.old ≤ D.port_faults port.new }
-        // Where a page is told as damaged, a fetch was made in this call, on any disk.
-        ensures fetched { (name : Name) → IsErrOf result (refused.Damaged name) → D.fetches port.old < D.fetches port.new }
+        // On any disk: where a page is told as damaged, a fetch was made in this call, and it is one of a file of the version behind it.
+        ensures damaged { (name : Name) → IsErrOf result (refused.Damaged name) → HasDamagedPage self.new name × (D.fetches port.old < D.fetches port.new) }
         ensures fetches { D.fetches port.old ≤ D.fetches port.new }
     {
         let earlier = D::port_faults(port);
@@ -187,8 +187,8 @@ impl<D: Disk> Core<D> {
         ensures free { self.new.flight ≡ None }
         ensures begun { self.new.begun ≡ self.old.begun }
         ensures port_faults { D.port_faults port.old ≤ D.port_faults port.new }
-        // Where a page is told as damaged, a fetch was made in this call, on any disk.
-        ensures fetched { (name : Name) → IsErrOf result (refused.Damaged name) → D.fetches port.old < D.fetches port.new }
+        // On any disk: where a page is told as damaged, a fetch was made in this call, and it is one of a file of the version behind it.
+        ensures damaged { (name : Name) → IsErrOf result (refused.Damaged name) → HasDamagedPage self.new name × (D.fetches port.old < D.fetches port.new) }
         ensures fetches { D.fetches port.old ≤ D.fetches port.new }
     {
         let task = match self.next_task(alloc, choice) {

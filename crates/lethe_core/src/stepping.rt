@@ -21,7 +21,7 @@ ghost use Rattle.lethe_advance.specs.Steps.{HasStayed, IsStep};
 ghost use Rattle.lethe_state.specs.Room.{IsFlushed, IsFrozen, IsShortToFlush, IsShortToFreeze, IsUnfrozen, frozen_len};
 ghost use Rattle.lethe_core.specs.Keeps.{Keeps, MayStep};
 ghost use Rattle.lethe_core.specs.Merges.{Outcome, IsRoomBegun, IsRoomMadeBy, pages_of, AreRetiredBehind};
-ghost use Rattle.lethe_core.specs.Reasons.{HasReason, IsShort, IsShortOfRoom, IsUnreadable};
+ghost use Rattle.lethe_core.specs.Reasons.{HasDamagedPage, HasReason, IsShort, IsShortOfRoom, IsUnreadable};
 ghost use Rattle.lethe_core.specs.Running.{Holds, IsRunning};
 ghost use Rattle.lethe_core.specs.Steps.{IsDoneInPart, IsEmptied, IsHindered, IsReady, IsReadyToFreeze, IsUndone, IsUnfrozenAfter};
 ghost use Rattle.lethe_core.specs.View.{beside_in, view_of};
@@ -56,8 +56,8 @@ impl<D: Disk> Core<D> {
         ensures flight { self.new.flight ≡ self.old.flight }
         ensures begun { self.new.begun ≡ self.old.begun }
         ensures port_faults { D.port_faults port.old ≤ D.port_faults port.new }
-        // Where a page is told as damaged, a fetch was made in this call, on any disk.
-        ensures fetched { (name : Name) → IsErrOf result (refused.Damaged name) → D.fetches port.old < D.fetches port.new }
+        // On any disk: where a page is told as damaged, a fetch was made in this call, and it is one of a file of the version behind it.
+        ensures damaged { (name : Name) → IsErrOf result (refused.Damaged name) → HasDamagedPage self.new name × (D.fetches port.old < D.fetches port.new) }
         ensures fetches { D.fetches port.old ≤ D.fetches port.new }
     {
         if self.state.has_room() {

@@ -65,7 +65,7 @@ pub record Answers (Tells : Type 0) (asked : Asked) (why : Option Refused) (face
   pub any_moment : Tells → (config : Fields) (h : History) → StandsNow config h old → old.state.stopped ≡ None → (caller : ℕ) → GoesFrom old.state.next (IsKeptOr config h (written_by caller asked why)) old.disk new.disk
   -- numbers are drawn no faster than device calls are made
   pub numbers : Tells → new.state.next + old.disk.moment ≤ old.state.next + new.disk.moment
-  -- and none comes back, so that no moment does
+  -- the next number doesn't fall, and on a disk that tells what it holds nor does the moment
   pub drawn : old.state.next ≤ new.state.next
   pub later : Tells → old.disk.moment ≤ new.disk.moment
   pub faults : old.faults ≤ new.faults

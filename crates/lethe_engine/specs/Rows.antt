@@ -22,6 +22,6 @@ pub record AnswersRow (Tells : Type 0) (asked left : List Asked) (done : ℕ) (r
   -- jobs and pins stay as they are, and the pages that are retired
   pub face_is : face_of new ≡ face_of old
   pub retired : new.retired ≡ old.retired
-  -- no number comes back, nor a moment
+  -- the next number doesn't fall, and on a disk that tells what it holds nor does the moment
   pub drawn : old.state.next ≤ new.state.next
   pub later : Tells → old.disk.moment ≤ new.disk.moment

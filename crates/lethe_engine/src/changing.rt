@@ -12,6 +12,7 @@ ghost use Rattle.lethe_state.specs.Room.{HasRoom};
 ghost use Rattle.lethe_core.specs.Asked.{Makes};
 ghost use Rattle.lethe_core.specs.Changes.{erase_over, put_over, with_record};
 ghost use Rattle.lethe_core.specs.Merges.{IsRoomMadeBy, Outcome, pages_of, AreRetiredBehind};
+ghost use Rattle.lethe_core.specs.Reasons.{HasDamagedPage};
 ghost use Rattle.lethe_core.specs.Running.{Holds, IsSound};
 ghost use Rattle.lethe_core.specs.View.{face_of, view_of};
 ghost use Rattle.lethe_engine.specs.Answers.{Answers};
@@ -68,8 +69,8 @@ impl<D: Disk> Engine<D> {
 
         ensures port_faults { D.port_faults port.old ≤ D.port_faults port.new }
 
-        // Where a page is told as damaged, a fetch was made in this call, on any disk.
-        ensures fetched { (name : Name) → IsErrOf result (Damaged name) → D.fetches port.old < D.fetches port.new }
+        // On any disk: where a page is told as damaged, a fetch was made in this call, and it is one of a file of the version behind it.
+        ensures damaged { (name : Name) → IsErrOf result (Damaged name) → HasDamagedPage self.new.core name × (D.fetches port.old < D.fetches port.new) }
         ensures fetches { D.fetches port.old ≤ D.fetches port.new }
         ensures certificates { self.new.certificates ≡ self.old.certificates }
         ensures pins { self.new.core.pins ≡ self.old.core.pins }
@@ -119,8 +120,8 @@ impl<D: Disk> Engine<D> {
 
         ensures port_faults { D.port_faults port.old ≤ D.port_faults port.new }
 
-        // Where a page is told as damaged, a fetch was made in this call, on any disk.
-        ensures fetched { (name : Name) → IsErrOf result (Damaged name) → D.fetches port.old < D.fetches port.new }
+        // On any disk: where a page is told as damaged, a fetch was made in this call, and it is one of a file of the version behind it.
+        ensures damaged { (name : Name) → IsErrOf result (Damaged name) → HasDamagedPage self.new.core name × (D.fetches port.old < D.fetches port.new) }
         ensures fetches { D.fetches port.old ≤ D.fetches port.new }
         ensures certificates { self.new.certificates ≡ self.old.certificates }
         ensures pins { self.new.core.pins ≡ self.old.core.pins }
@@ -169,8 +170,8 @@ impl<D: Disk> Engine<D> {
 
         ensures port_faults { D.port_faults port.old ≤ D.port_faults port.new }
 
-        // Where a page is told as damaged, a fetch was made in this call, on any disk.
-        ensures fetched { (name : Name) → IsErrOf result (Damaged name) → D.fetches port.old < D.fetches port.new }
+        // On any disk: where a page is told as damaged, a fetch was made in this call, and it is one of a file of the version behind it.
+        ensures damaged { (name : Name) → IsErrOf result (Damaged name) → HasDamagedPage self.new.core name × (D.fetches port.old < D.fetches port.new) }
         ensures fetches { D.fetches port.old ≤ D.fetches port.new }
         ensures certificates { self.new.certificates ≡ self.old.certificates }
         ensures pins { self.new.core.pins ≡ self.old.core.pins }

@@ -15,8 +15,9 @@ ghost use Rattle.lethe_version.specs.Probing.{bound};
 ghost use Rattle.lethe_read.specs.Between.{AreListedBetween};
 ghost use Rattle.lethe_read.specs.Found.{IsBacked, buffered_entry, frozen_entries};
 ghost use Rattle.lethe_read.specs.Refusals.{IsReadRefusal};
-ghost use Rattle.lethe_version.specs.Versions.{IsDamagedInAny, IsDamagedOf, IsVouchedBy, files_of, pages_between};
+ghost use Rattle.lethe_version.specs.Versions.{IsDamagedOf, IsVouchedBy, files_of, pages_between};
 ghost use Rattle.lethe_engine.specs.Reads.{is_in_memory, listed};
+ghost use Rattle.lethe_core.specs.Reasons.{HasDamagedPage};
 ghost use Rattle.lethe_core.specs.Running.{IsSound};
 ghost use Rattle.lethe_core.specs.StandsNow.{StandsNow};
 ghost use Rattle.lethe_core.specs.View.{face_of, view_of};
@@ -116,7 +117,7 @@ impl<D: Disk> Engine<D> {
         ensures unasked { is_lt (key_cmp lo.now hi.now) ≡ false → D.fetches port.new ≡ D.fetches port.old }
 
         // Where a page is told as damaged, a fetch was made in this call, and it is another page.
-        ensures damaged { (name : Name) → IsErrOf result (Damaged name) → IsDamagedInAny self.now.core.version name × (D.fetches port.old < D.fetches port.new) }
+        ensures damaged { (name : Name) → IsErrOf result (Damaged name) → HasDamagedPage self.now.core name × (D.fetches port.old < D.fetches port.new) }
         ensures later { D.fetches port.old ≤ D.fetches port.new }
         ensures why { IfErr result IsReadRefusal }
         ensures undamaged { D.tells → IsSound D.tells (view_of self.now.core)

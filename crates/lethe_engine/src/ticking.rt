@@ -17,6 +17,7 @@ ghost use Rattle.lethe_core.specs.Asked.{Makes, behind};
 ghost use Rattle.lethe_core.specs.Merges.{AreOutcomesBy, Outcome, due_choice, pages_of};
 ghost use Rattle.lethe_pins.specs.Held.{first_limit_of};
 ghost use Rattle.lethe_core.specs.Pinned.{AreNamed};
+ghost use Rattle.lethe_core.specs.Reasons.{HasDamagedPage};
 ghost use Rattle.lethe_core.specs.Running.{Holds, IsSound};
 ghost use Rattle.lethe_core.specs.StandsNow.{StandsNow};
 ghost use Rattle.lethe_core.specs.View.{view_of};
@@ -108,8 +109,8 @@ impl<D: Disk> Engine<D> {
 
         ensures port_faults { D.port_faults port.old ≤ D.port_faults port.new }
 
-        // Where a page is told as damaged, a fetch was made in this call, on any disk.
-        ensures fetched { (name : Name) → IsErrOf result (refused.Damaged name) → D.fetches port.old < D.fetches port.new }
+        // On any disk: where a page is told as damaged, a fetch was made in this call, and it is one of a file of the version behind it.
+        ensures damaged { (name : Name) → IsErrOf result (refused.Damaged name) → HasDamagedPage self.new.core name × (D.fetches port.old < D.fetches port.new) }
         ensures fetches { D.fetches port.old ≤ D.fetches port.new }
     {
         self.may_tick(to)?;

@@ -8,5 +8,6 @@ pub mod Planned
 pub mod SweepPlanned
 pub mod SweepMade
 pub mod Next
+pub mod Told
 mod Adding
 mod Pieces

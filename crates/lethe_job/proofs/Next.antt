@@ -1,7 +1,8 @@
 -- The task of a plan in a store, as its files are told, and which plan is the choice.
 use Rattle.std.proofs.Common.{◌≡◌, ℕ, ◌+◌, ◌<◌, ◌≤◌, ◌^◌, true, false, eqb, List, ◌++◌, length, map, Some, sym, ap, ◌∙◌, subst, arith}
-use Rattle.std.specs.Prelude.{◌&&◌, ◌||◌, Contains}
+use Rattle.std.specs.Prelude.{◌&&◌, ◌||◌, All, Contains}
 use Rattle.std.proofs.lemmas.Bool.{and_left, and_parts, eqb-true, ne_eqb}
+use Rattle.std.proofs.lemmas.List.Elements.{All-append, All-contains_itself, All-filter}
 use Rattle.std.proofs.lemmas.List.Sums.{sum_by-append}
 use Rattle.lethe_base.specs.Configuration.{IsConfig}
 use Rattle.lethe_base.specs.declared.config.Fields.{Fields}
@@ -31,6 +32,15 @@ some_inputs level number keys files =
 pub task_some : (level : ℕ) (plan : Plan) (files : List StoredFile) (config : Fields) (erases : List Pending) (count : ℕ) (task : PlainMerge) → task ≡ merge_in level plan files config erases count
     → counted_in (merge_inputs task) ≤ counted_in files
 task_some level plan files config erases count task is = subst (λ (task : PlainMerge). counted_in (merge_inputs task) ≤ counted_in files) (sym is) (some_inputs level plan.file (hull_in (sources_in level plan.file files)) files)
+
+pub task_from : (level : ℕ) (plan : Plan) (files : List StoredFile) (config : Fields) (erases : List Pending) (count : ℕ) (task : PlainMerge) → task ≡ merge_in level plan files config erases count
+    → All (Contains files) (merge_inputs task)
+task_from level plan files config erases count task is =
+    let sources = sources_in level plan.file files in
+    let keys = hull_in sources in
+    subst (λ (task : PlainMerge). All (Contains files) (merge_inputs task)) (sym is)
+    (All-append (Contains files) sources (met_in (level + 1) keys files) (All-filter (is_source level plan.file) (Contains files) files (All-contains_itself files))
+    (All-filter (λ file. eqb file.level (level + 1) && overlaps keys (range_in file)) (Contains files) files (All-contains_itself files)))
 
 module _ {D Page Port : Type 0} {disk : Ghosts D Page Port} (files : List (Filed D Page Port disk)) (config : Fields) (erases : List Pending) (count : ℕ) where
   abbrev all : List StoredFile

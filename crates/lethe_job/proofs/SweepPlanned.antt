@@ -227,6 +227,9 @@ module _ (levels : ℕ) (plan : Plan) (place : ℕ) (files : List StoredFile) (e
       pub sweep_counted : counted_in (task.file ∷ []) ≤ counted_in files
       sweep_counted = subst (λ (t : PlainSweep). counted_in (t.file ∷ []) ≤ counted_in files) (sym one.is) (one_counted files one.file one.there)
 
+      pub sweep_from : All (Contains files) (task.file ∷ [])
+      sweep_from = subst (λ (t : PlainSweep). All (Contains files) (t.file ∷ [])) (sym one.is) (All-cons (Contains files) one.file [] one.there (All-nil (Contains files)))
+
       pub sweep_erase : task.erase ≡ one.erase
       sweep_erase = ap (λ (t : PlainSweep). t.erase) one.is
 

@@ -1,9 +1,12 @@
 //! A job that runs.
-ghost use Rattle.std.specs.Prelude.{◌≡◌, ◌+◌, ◌≤◌, ◌<◌, ◌^◌, ◌↔◌, [], true, false, length, slice_index_or, sum_by, All, IfOk, IfErr, IfSome, IsOk, OnOk, OnErr, None, IsSome};
+ghost use Rattle.std.specs.Prelude.{◌≡◌, ◌+◌, ◌≤◌, ◌<◌, ◌^◌, ◌↔◌, [], true, false, length, slice_index_or, sum_by, All, Any, IfOk, IfErr, IfSome, IsErrOf, IsOk, OnOk, OnErr, None, IsSome};
 ghost use Rattle.lethe_base.specs.Limits.{max_time};
+ghost use Rattle.lethe_base.specs.declared.name.Name.{Name};
+ghost use Rattle.lethe_base.specs.declared.refused.Refused.TheVariants.{Damaged};
 ghost use Rattle.lethe_job.specs.Jobs as jobs;
 ghost use Rattle.lethe_job.specs.Jobs.{IsJob, IsUnread, next_bytes};
 ghost use Rattle.lethe_job.specs.MadeOf.{pages_of};
+ghost use Rattle.lethe_job.specs.Tasks.{HasDamaged};
 ghost use Rattle.lethe_job.specs.Works.{erases_of, inputs_in, plain_task, reads_of};
 
 use crate::made::Made;
@@ -110,7 +113,10 @@ impl<D: Disk> Job<D> {
         ensures ready { IsSome self.old.made → IsOk result }
         ensures fetches { self.old.made ≡ None → OnOk result (D.fetches self.new.port ≡ D.fetches self.old.port + reads_of (plain_task self.old.task.value)) }
         ensures at_most { D.fetches self.new.port ≤ D.fetches self.old.port + reads_of (plain_task self.old.task.value) }
-        ensures later { D.port_faults self.old.port ≤ D.port_faults self.new.port }
+        ensures later { D.fetches self.old.port ≤ D.fetches self.new.port }
+        ensures faults { D.port_faults self.old.port ≤ D.port_faults self.new.port }
+        ensures damaged { (name : Name) → IsErrOf result (Damaged name)
+            → Any (HasDamaged D.tells name) (inputs_in (plain_task self.old.task.value)) × (D.fetches self.old.port < D.fetches self.new.port) }
         ensures unread { IfErr result (IsUnread D.tells D.ports_fail (inputs_in (plain_task self.old.task.value)) (D.port_faults self.old.port) (D.port_faults self.new.port)) }
     {
         if self.made.is_some() {
@@ -156,7 +162,12 @@ impl<D: Disk> Job<D> {
         // The first call reads each page of a merge's inputs once, and of a sweep's file those that its header tells.
         ensures fetches { self.old.made ≡ None → OnOk result (D.fetches self.new.port ≡ D.fetches self.old.port + reads_of (plain_task self.old.task.value)) }
         ensures at_most { D.fetches self.new.port ≤ D.fetches self.old.port + reads_of (plain_task self.old.task.value) }
-        ensures later { D.port_faults self.old.port ≤ D.port_faults self.new.port }
+        ensures later { D.fetches self.old.port ≤ D.fetches self.new.port }
+        ensures faults { D.port_faults self.old.port ≤ D.port_faults self.new.port }
+
+        // Where a page is told as damaged, a fetch was made in this call, and it is a page of one of the inputs, and another one than was written.
+        ensures damaged { (name : Name) → IsErrOf result (Damaged name)
+            → Any (HasDamaged D.tells name) (inputs_in (plain_task self.old.task.value)) × (D.fetches self.old.port < D.fetches self.new.port) }
         ensures unread { IfErr result (IsUnread D.tells D.ports_fail (inputs_in (plain_task self.old.task.value)) (D.port_faults self.old.port) (D.port_faults self.new.port)) }
     {
         self.make(alloc)?;

@@ -1,5 +1,5 @@
 //! What a job is to do.
-ghost use Rattle.std.specs.Prelude.{◌≡◌, ◌<◌, ◌≤◌, ◌^◌, length, map, IfOk, IsSome};
+ghost use Rattle.std.specs.Prelude.{◌≡◌, ◌<◌, ◌≤◌, ◌^◌, length, map, All, Contains, IfOk, IsSome};
 ghost use Rattle.lethe_follows.specs.Merged.{erases_upto};
 ghost use Rattle.lethe_stored.specs.Stored.{Stored};
 ghost use Rattle.lethe_job.specs.Chosen.{level_named, sources_in, merge_in};
@@ -51,7 +51,8 @@ pub fn merge_of<D: Disk>(
     ensures upto { IfOk result (λ task. task.upto ≡ count) }
     ensures erases { IfOk result (λ task. task.erases ≡ erases_upto count erases.now) }
     ensures config { IfOk result (λ task. task.config ≡ config.now) }
-    // Its inputs' headers count no more entries than those of all the files.
+    // Its inputs are some of the files, and their headers count no more entries than those of all the files.
+    ensures inputs { IfOk result (λ task. All (Contains (map plain_file files.now)) (merge_inputs (plain_merge task))) }
     ensures some_of { IfOk result (λ task. counted_in (merge_inputs (plain_merge task)) ≤ counted_in (map plain_file files.now)) }
 {
     let Some(level) = level_named(files, config.fields().levels, plan.file) else {

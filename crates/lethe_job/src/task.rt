@@ -1,5 +1,5 @@
 //! What a job is to do: a merge or a sweep.
-ghost use Rattle.std.specs.Prelude.{◌≡◌, ◌≤◌, ◌<◌, ◌+◌, map, All, Any, IfOk, OnOk, IsErrOf};
+ghost use Rattle.std.specs.Prelude.{◌≡◌, ◌≤◌, ◌<◌, ◌+◌, map, All, Any, Contains, IfOk, OnOk, IsErrOf};
 ghost use Rattle.lethe_base.specs.Limits.{max_place, max_time};
 ghost use Rattle.lethe_base.specs.declared.name.Name.{Name};
 ghost use Rattle.lethe_disk.specs.Reads.{HasReadCause, IsFault};
@@ -45,7 +45,8 @@ pub fn task_of<D: Disk>(
     ensures levels { IfOk result (λ task. IsInLevels config.now.levels (plain_task task)) }
     ensures upto { count ≤ max_place → All (λ erase. erase.seq ≤ max_place) erases.now → IfOk result (λ task. applied_upto (plain_task task) ≤ max_place) }
     ensures times { All (λ erase. erase.time ≤ max_time) erases.now → IfOk result (λ task. All (λ erase. erase.time ≤ max_time) (erases_of (plain_task task))) }
-    // Its inputs' headers count no more entries than those of all the files.
+    // Its inputs are some of the files, and their headers count no more entries than those of all the files.
+    ensures inputs { IfOk result (λ task. All (Contains (map plain_file files.now)) (inputs_in (plain_task task))) }
     ensures some_of { IfOk result (λ task. counted_in (inputs_in (plain_task task)) ≤ counted_in (map plain_file files.now)) }
 {
     match plan.erase {

@@ -39,10 +39,14 @@ pub record AreHeld (held : Held) : Type 0 where
   pub ordered : AllPairs ComesBefore held.pins
   pub names : All (λ pin. Ascend pin.names) held.pins
 
--- with a pin that was made after all of these: it comes before the first of a greater limit
+-- with one that came after all of these: it stands before the first of a greater limit
+abbrev pub placed_by : {X : Type 0} → (X → ℕ) → X → List X → List X
+placed_by limit_of item [] = item ∷ []
+placed_by limit_of item (first ∷ rest) = if nat_lt (limit_of item) (limit_of first) then item ∷ first ∷ rest else first ∷ placed_by limit_of item rest
+
+-- with a pin that was made after all of these
 abbrev pub placed : Pin → List Pin → List Pin
-placed pin [] = pin ∷ []
-placed pin (first ∷ pins) = if nat_lt pin.limit first.limit then pin ∷ first ∷ pins else first ∷ placed pin pins
+placed = placed_by (λ pin. pin.limit)
 
 -- whether one of them has that number
 abbrev pub is_held : ℕ → List Pin → Bool

@@ -39,7 +39,7 @@ use Rattle.lethe_state.specs.declared.state.State.{State}
 use Rattle.lethe_advance.specs.Shown.{parts_by_level, parts_in}
 use Rattle.lethe_version.specs.Versions.{levels_of}
 use Rattle.lethe_version.specs.declared.version.Version.{Version}
-use Rattle.lethe_snapshot.specs.Times.{IsLeast, IsOldestIn, IsRemembered}
+use Rattle.lethe_snapshot.specs.Times.{IsLeast, IsOldestIn, IsRemembered, max_word}
 use Rattle.lethe_snapshot.proofs.Least.{least_either, least_same}
 
 -- The least time of some items is at most that of each, and is one's
@@ -265,7 +265,7 @@ module _ {D Page Port : Type 0} {kind : Ghosts D Page Port} (s : Stored) (cohere
 
 -- a threshold later than the least of the clock and the obligations is a limit, and fits
 pub limit_from : (s : Stored) → IsCoherent s → (fields : Fields) (least limit : ℕ) → fields ≡ s.manifest.config → IsLeast s.manifest.clock (IsObligation (layout_of s)) least
-    → limit ≡ min (fields.threshold + least) 18446744073709551615 → IsLimit s.manifest.config.threshold (layout_of s) limit
+    → limit ≡ min (fields.threshold + least) max_word → IsLimit s.manifest.config.threshold (layout_of s) limit
 limit_from s coherent fields least limit same is capped = record {
   clock = let low = is.upto in omega (arith, low, sum);
   oldest = λ time obligation. let low = is.each time obligation in omega (arith, low, sum);

@@ -20,8 +20,12 @@ abbrev pub IsRemembered : State → List (List Parts) → ℕ → Type 0
 IsRemembered state levels time = (state.oldest ≡ Some time) ⊎ (state.frozen_oldest ≡ Some time) ⊎ Any (λ erase. erase.time ≡ time) (left_with state)
     ⊎ Any (λ files. Any (λ parts. IsOldestIn parts.header.tiles time) files) levels
 
+-- the greatest number of a word, which a sum that doesn't fit stays at
+abbrev pub max_word : ℕ
+max_word = 18446744073709551615
+
 -- on any disk: a threshold later than the clock, or than the least of those times where that is earlier, as far as a number goes
 pub record IsLimitBy (state : State) (levels : List (List Parts)) (limit : ℕ) : Type 0 where
   pub time : ℕ
   pub least : IsLeast state.manifest.clock (IsRemembered state levels) time
-  pub later : limit ≡ min (state.manifest.config.threshold + time) 18446744073709551615
+  pub later : limit ≡ min (state.manifest.config.threshold + time) max_word

@@ -15,7 +15,7 @@ ghost use Rattle.lethe_core.specs.Asked.{Makes, behind, counted, stopped_by, wri
 ghost use Rattle.lethe_core.specs.Keeps.{Keeps, MayStep};
 ghost use Rattle.lethe_core.specs.Merges.{AreOutcomesBy, Outcome, due_choice, pages_of};
 ghost use Rattle.lethe_core.specs.Pinned.{AreKept, AreNamed, AreRetiredFrom};
-ghost use Rattle.lethe_core.specs.Reasons.{HasReason, IsUnreadable};
+ghost use Rattle.lethe_core.specs.Reasons.{HasDamagedPage, HasReason, IsUnreadable};
 ghost use Rattle.lethe_core.specs.Running.{Holds, IsSound};
 ghost use Rattle.lethe_core.specs.StandsNow.{StandsNow};
 ghost use Rattle.lethe_core.specs.Steps.{IsDoneInPart};
@@ -85,8 +85,8 @@ pub fn tick<D: Disk>(
     ensures pinned { D.tells → AreKept (view_of core.old).pins.pins (D.seen core.old.disk).directory (D.seen core.new.disk).directory }
     ensures named { OnOk result (AreNamed (view_of core.new).pins.pins (view_of core.new).retired) }
     ensures port_faults { D.port_faults port.old ≤ D.port_faults port.new }
-    // Where a page is told as damaged, a fetch was made in this call, on any disk.
-    ensures fetched { (name : Name) → IsErrOf result (refused.Damaged name) → D.fetches port.old < D.fetches port.new }
+    // On any disk: where a page is told as damaged, a fetch was made in this call, and it is one of a file of the version behind it.
+    ensures damaged { (name : Name) → IsErrOf result (refused.Damaged name) → HasDamagedPage core.new name × (D.fetches port.old < D.fetches port.new) }
     ensures fetches { D.fetches port.old ≤ D.fetches port.new }
     ensures certificate { IfOk result (λ told. told ≡ certificate_of core.new.state.manifest to) }
     ensures manifest { OnOk result ((core.new.state.manifest.clock ≡ to) × (core.new.state.manifest.count ≡ core.new.state.count)) }
@@ -117,7 +117,7 @@ fn ripen_store<D: Disk>(
     ensures begun { core.new.begun ≡ core.old.begun }
     ensures named { OnOk result (AreNamed (view_of core.new).pins.pins (view_of core.new).retired) }
     ensures port_faults { D.port_faults port.old ≤ D.port_faults port.new }
-    ensures fetched { (name : Name) → IsErrOf result (refused.Damaged name) → D.fetches port.old < D.fetches port.new }
+    ensures damaged { (name : Name) → IsErrOf result (refused.Damaged name) → HasDamagedPage core.new name × (D.fetches port.old < D.fetches port.new) }
     ensures fetches { D.fetches port.old ≤ D.fetches port.new }
 {
     core.clear_now(alloc, before)?;

@@ -123,7 +123,7 @@ returns-in-Err-clause-answers g c =
 
 -- Where a page is told as damaged
 
-pub returns-then-is_some-clause-fetched : goal.returns-then-is_some-clause-fetched
-returns-then-is_some-clause-fetched g c = λ name is.
+pub returns-then-is_some-clause-damaged : goal.returns-then-is_some-clause-damaged
+returns-then-is_some-clause-damaged g c = λ name is.
     let says = c.change_row-row.ensures.answers in
     absurd (subst (λ r. IsEnded r says.row.rest c.change_row-row.new.asked.items says.row.failed (view_of c.loop-alloc.engine.core) (view_of c.change_row-row.new.self.core)) is says.row.ended)

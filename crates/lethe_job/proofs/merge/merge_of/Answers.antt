@@ -1,8 +1,9 @@
 use Rattle.std.proofs.Common.{◌≡◌, ◌<◌, ◌≤◌, map}
+use Rattle.std.specs.Prelude.{All, Contains}
 use Rattle.std.proofs.lemmas.Result.{IfOk-weaker}
 use Rattle.lethe_job.specs.Chosen.{merge_in}
 use Rattle.lethe_job.specs.Tasks.{IsPlannedMerge, counted_in, merge_inputs, plain_file, plain_merge}
-use Rattle.lethe_job.proofs.Next.{level_small, planned, some_source, task_low, task_some}
+use Rattle.lethe_job.proofs.Next.{level_small, planned, some_source, task_from, task_low, task_some}
 use Rattle.lethe_job.proofs.merge.merge_of.Goals as goal
 
 pub merge_in-requires-clause-level : goal.merge_in-requires-clause-level
@@ -33,3 +34,9 @@ returns-clause-some_of g c =
     let files = map plain_file c.args.files.now in
     IfOk-weaker c.merge_in.result (λ task. plain_merge task ≡ merge_in c.in-Some.level c.args.plan files c.args.config.now c.args.erases.now c.args.count) (λ task. counted_in (merge_inputs (plain_merge task)) ≤ counted_in files)
     (λ task is. task_some c.in-Some.level c.args.plan files c.args.config.now c.args.erases.now c.args.count (plain_merge task) is) c.merge_in.ensures
+
+pub returns-clause-inputs : goal.returns-clause-inputs
+returns-clause-inputs g c =
+    let files = map plain_file c.args.files.now in
+    IfOk-weaker c.merge_in.result (λ task. plain_merge task ≡ merge_in c.in-Some.level c.args.plan files c.args.config.now c.args.erases.now c.args.count) (λ task. All (Contains files) (merge_inputs (plain_merge task)))
+    (λ task is. task_from c.in-Some.level c.args.plan files c.args.config.now c.args.erases.now c.args.count (plain_merge task) is) c.merge_in.ensures

@@ -7,7 +7,7 @@ use Rattle.lethe_base.specs.declared.pending.Pending.{Pending}
 use Rattle.lethe_sweep_task.specs.Outcome.{plain_sweep}
 use Rattle.lethe_job.specs.Tasks.{plain_file}
 use Rattle.lethe_job.specs.Works.{IsPlanIn}
-use Rattle.lethe_job.proofs.SweepPlanned.{found_sweep, sweep_counted, sweep_low, sweep_planned, sweep_times, sweep_upto}
+use Rattle.lethe_job.proofs.SweepPlanned.{found_sweep, sweep_counted, sweep_from, sweep_low, sweep_planned, sweep_times, sweep_upto}
 use Rattle.lethe_job.proofs.task.task_of.Goals as goal
 
 pub returns-in_ok-merge-in-None-clause-times : goal.returns-in_ok-merge-in-None-clause-times
@@ -55,3 +55,11 @@ returns-in_ok-sweep-in-Some-clause-some_of g c =
     let task = plain_sweep c.in_ok-sweep-in-Some.sweep in
     let one = found_sweep levels c.args.plan c.in-Some.place files c.args.erases.now task c.in_ok-sweep-in-Some.ensures in
     sweep_counted levels c.args.plan c.in-Some.place files c.args.erases.now task one
+
+pub returns-in_ok-sweep-in-Some-clause-inputs : goal.returns-in_ok-sweep-in-Some-clause-inputs
+returns-in_ok-sweep-in-Some-clause-inputs g c =
+    let files = map plain_file c.args.files.now in
+    let levels = c.fields.result.now.levels in
+    let task = plain_sweep c.in_ok-sweep-in-Some.sweep in
+    let one = found_sweep levels c.args.plan c.in-Some.place files c.args.erases.now task c.in_ok-sweep-in-Some.ensures in
+    sweep_from levels c.args.plan c.in-Some.place files c.args.erases.now task one

@@ -2,7 +2,7 @@ use Rattle.std.proofs.Common.{◌≡◌, ℕ, ◌+◌, min, List, Option, Any, S
 use Rattle.lethe_base.specs.declared.config.Fields.{Fields}
 use Rattle.lethe_base.specs.declared.pending.Pending.{Pending}
 use Rattle.lethe_manifest.specs.declared.manifest.Manifest.{Manifest}
-use Rattle.lethe_snapshot.specs.Times.{IsLeast}
+use Rattle.lethe_snapshot.specs.Times.{IsLeast, max_word}
 use Rattle.lethe_snapshot.proofs.Obligations.{least_obligation, least_remembered, limit_from}
 use Rattle.lethe_snapshot.proofs.limit.limit_of.Goals as goal
 
@@ -31,5 +31,5 @@ returns-clause-by g c =
       time = c.least_of_version-time.result;
       least = least_remembered state c.args.version.now c.earlier-time.result c.earlier-time-2.result c.least_of_erases-time.result c.least_of_version-time.result active frozen erases c.least_of_version-time.ensures;
       later = c.saturating_add.ensures
-          ∙ ap (λ (f : Fields). min (f.threshold + c.least_of_version-time.result) 18446744073709551615) (c.fields.ensures.fields ∙ ap (λ (m : Manifest). m.config) c.manifest-manifest.ensures);
+          ∙ ap (λ (f : Fields). min (f.threshold + c.least_of_version-time.result) max_word) (c.fields.ensures.fields ∙ ap (λ (m : Manifest). m.config) c.manifest-manifest.ensures);
     }

@@ -15,7 +15,7 @@ use Rattle.lethe_core.specs.Running.{Holds}
 use Rattle.lethe_core.specs.Steps.{IsDoneInPart}
 use Rattle.lethe_core.specs.View.{view_of}
 use Rattle.lethe_core.proofs.Behind.{next_may, reason_behind}
-use Rattle.lethe_core.proofs.Fetched.{not_damaged}
+use Rattle.lethe_core.proofs.Damaged.{not_damaged}
 use Rattle.lethe_core.proofs.Hindered.{keeps_then}
 use Rattle.lethe_core.proofs.Retired.{named_still}
 use Rattle.lethe_tick.specs.Ripened.{IsRipened, IsShortToTick, IsTickedInPart}
@@ -63,8 +63,8 @@ returns-in_err-clear_now-clause-why g c =
     subst (λ (r : Result (Unit {0}) Refused). IfErr r (λ why. HasReason Short old c.args.before new.faults why ⊎ IsUnreadable g.D.Disk.tells g.D.Disk.ports_fail faults faults why)) (sym refusal)
     (inl (reason_behind ⊥ Short old old c.args.before new.faults refl refl (λ short. absurd short) why c.in_err-clear_now.ensures.why))
 
-pub returns-in_err-clear_now-clause-fetched : goal.returns-in_err-clear_now-clause-fetched
-returns-in_err-clear_now-clause-fetched g c = λ name e.
+pub returns-in_err-clear_now-clause-damaged : goal.returns-in_err-clear_now-clause-damaged
+returns-in_err-clear_now-clause-damaged g c = λ name e.
     let old = c.args.core.now.state in
     let now = g.D.Disk.faults c.clear_now.new.self.disk in
     let why = c.in_err-clear_now.field-0.0 in
@@ -108,8 +108,8 @@ returns-in_err-ripen_buffers-clause-why g c =
     subst (λ (r : Result (Unit {0}) Refused). IfErr r (λ why. HasReason Short old c.args.before new.faults why ⊎ IsUnreadable g.D.Disk.tells g.D.Disk.ports_fail faults faults why)) (sym refusal)
     (inl (reason_behind Buffers Short old free c.args.before new.faults first.stopped first.count wider why c.in_err-ripen_buffers.ensures.why))
 
-pub returns-in_err-ripen_buffers-clause-fetched : goal.returns-in_err-ripen_buffers-clause-fetched
-returns-in_err-ripen_buffers-clause-fetched g c = λ name e.
+pub returns-in_err-ripen_buffers-clause-damaged : goal.returns-in_err-ripen_buffers-clause-damaged
+returns-in_err-ripen_buffers-clause-damaged g c = λ name e.
     let old = c.clear_now.new.self.state in
     let new = c.ripen_buffers.new.core in
     let now = g.D.Disk.faults new.disk in

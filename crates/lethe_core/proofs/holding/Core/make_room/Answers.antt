@@ -13,7 +13,7 @@ use Rattle.lethe_core.specs.Running.{Holds}
 use Rattle.lethe_core.specs.Steps.{IsDoneInPart, IsReady, IsSteady}
 use Rattle.lethe_core.specs.View.{Flying, flying_of, view_of}
 use Rattle.lethe_core.proofs.Behind.{next_may, reason_behind}
-use Rattle.lethe_core.proofs.Fetched.{not_damaged}
+use Rattle.lethe_core.proofs.Damaged.{not_damaged}
 use Rattle.lethe_core.proofs.Hindered.{keeps_itself, keeps_then}
 use Rattle.lethe_core.proofs.Likes.{before_holds, jobs_same}
 use Rattle.lethe_core.proofs.Outcomes.{retired_since}
@@ -191,8 +191,8 @@ returns-clause-room g c = λ room. absurd (clash c.has_room.result (c.has_room.e
 
 -- Neither of the first two steps tells of a page
 
-pub returns-in_err-unfreeze-clause-fetched : goal.returns-in_err-unfreeze-clause-fetched
-returns-in_err-unfreeze-clause-fetched g c = λ name e.
+pub returns-in_err-unfreeze-clause-damaged : goal.returns-in_err-unfreeze-clause-damaged
+returns-in_err-unfreeze-clause-damaged g c = λ name e.
     let old = c.args.self.now.state in
     let now = g.D.Disk.faults c.unfreeze.new.self.disk in
     let why = c.in_err-unfreeze.field-0.0 in
@@ -200,8 +200,8 @@ returns-in_err-unfreeze-clause-fetched g c = λ name e.
     absurd (not_damaged (IsShort old) old c.args.before now c.from_residual.result
     (subst (λ (r : Result (Unit {0}) Refused). IfErr r (HasReason (IsShort old) old c.args.before now)) (sym refusal) c.in_err-unfreeze.ensures.why) name e)
 
-pub returns-in_err-freeze_now-clause-fetched : goal.returns-in_err-freeze_now-clause-fetched
-returns-in_err-freeze_now-clause-fetched g c = λ name e.
+pub returns-in_err-freeze_now-clause-damaged : goal.returns-in_err-freeze_now-clause-damaged
+returns-in_err-freeze_now-clause-damaged g c = λ name e.
     let old = c.unfreeze.new.self.state in
     let now = g.D.Disk.faults c.freeze_now.new.self.disk in
     let why = c.in_err-freeze_now.field-0.0 in

@@ -11,7 +11,7 @@ use Rattle.lethe_core.specs.Running.{Holds}
 use Rattle.lethe_core.specs.Steps.{IsDoneInPart}
 use Rattle.lethe_core.specs.View.{view_of}
 use Rattle.lethe_core.proofs.Asked.{not_failed}
-use Rattle.lethe_core.proofs.Fetched.{damaged_since, not_short}
+use Rattle.lethe_core.proofs.Damaged.{damaged_since, not_short}
 use Rattle.lethe_core.proofs.Hindered.{keeps_itself}
 use Rattle.lethe_core.proofs.Outcomes.{merged_may, no_more, none_merged, once_more, some_merged, too_many}
 use Rattle.lethe_core.proofs.Behind.{either_since, keeps_since, since_failed}
@@ -104,15 +104,16 @@ returns-in-Err-clause-why g c =
     subst (λ (why : Refused). HasReason Short c.args.self.now.state c.args.before now why ⊎ IsUnreadable g.D.Disk.tells g.D.Disk.ports_fail (g.D.Disk.port_faults c.args.port.now) later why)
     (sym (c.told_since.ensures ∙ ap (λ earlier. told_since earlier c.in-Err.why) c.port_faults-earlier.ensures)) either
 
-pub returns-in-Err-clause-fetched : goal.returns-in-Err-clause-fetched
-returns-in-Err-clause-fetched g c = λ name e.
+pub returns-in-Err-clause-damaged : goal.returns-in-Err-clause-damaged
+returns-in-Err-clause-damaged g c = λ name e.
     let told : c.told_since.result ≡ Damaged name = cc in
     let last : c.in-Err.why ≡ Damaged name = damaged_since c.port_faults-earlier.result c.in-Err.why name (sym c.told_since.ensures ∙ told) in
-    let fetched = c.in-Err.ensures.fetched name (ap (λ (why : Refused). let r : Result Bool Refused = Err why in r) last) in
-    omega (arith, fetched, c.loop.invariant.fetches)
+    let damaged = c.in-Err.ensures.damaged name (ap (λ (why : Refused). let r : Result Bool Refused = Err why in r) last) in
+    let fetched = damaged.1 in
+    (damaged.0, omega (arith, fetched, c.loop.invariant.fetches))
 
-pub returns-in_err-most_jobs-clause-fetched : goal.returns-in_err-most_jobs-clause-fetched
-returns-in_err-most_jobs-clause-fetched g c = λ name e.
+pub returns-in_err-most_jobs-clause-damaged : goal.returns-in_err-most_jobs-clause-damaged
+returns-in_err-most_jobs-clause-damaged g c = λ name e.
     let why = c.in_err-most_jobs.field-0.0 in
     let refusal : c.from_residual.result ≡ Err why = search rules in
     let told : why ≡ Damaged name = cc in

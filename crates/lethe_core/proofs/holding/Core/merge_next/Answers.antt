@@ -5,7 +5,8 @@ use Rattle.lethe_base.specs.Limits.{max_time}
 use Rattle.lethe_base.specs.declared.refused.Refused.{Refused}
 use Rattle.lethe_base.specs.declared.refused.Refused.TheVariants.{Damaged, NoMemory}
 use Rattle.lethe_stored.specs.Stored.{Stored}
-use Rattle.lethe_job.specs.Works.{erases_of, plain_task}
+use Rattle.lethe_job.specs.Works.{erases_of, inputs_in, plain_task}
+use Rattle.lethe_job.proofs.Told.{damaged_as}
 use Rattle.lethe_core.specs.Asked.{failure_of}
 use Rattle.lethe_core.specs.Keeps.{Keeps}
 use Rattle.lethe_core.specs.Merges.{IsBegunBy, IsShortToMergeBy, IsTaskOf, chosen_by}
@@ -14,7 +15,7 @@ use Rattle.lethe_core.specs.Running.{Holds}
 use Rattle.lethe_core.specs.Steps.{IsUndone}
 use Rattle.lethe_core.specs.View.{flying_of, view_of}
 use Rattle.lethe_core.proofs.Asked.{not_failed}
-use Rattle.lethe_core.proofs.Fetched.{damaged_as, not_damaged, not_short}
+use Rattle.lethe_core.proofs.Damaged.{damaged_in, not_damaged, not_short}
 use Rattle.lethe_core.proofs.Hindered.{as_itself, keeps_itself}
 use Rattle.lethe_core.proofs.Installing.{chosen_counted, chosen_sound, next_outcome, outputs_bounded}
 use Rattle.lethe_core.proofs.Unread.{not_failed_read, short_reason, told_reason}
@@ -58,21 +59,25 @@ returns-in-Err-outcome-clause-why g c =
     let holds : Holds view held.0 = record { remembers = held.1; running = held.2 c.requires.may.runs } in
     c.in-Err-outcome.ensures.undamaged told (chosen_sound view task (λ s holds. (begins s holds).planned) held.0 holds) name (ap Err is)))
 
-pub returns-in-Err-outcome-clause-fetched : goal.returns-in-Err-outcome-clause-fetched
-returns-in-Err-outcome-clause-fetched g c = λ name e.
+pub returns-in-Err-outcome-clause-damaged : goal.returns-in-Err-outcome-clause-damaged
+returns-in-Err-outcome-clause-damaged g c = λ name e.
     let told : c.told_as.result ≡ Damaged name = cc in
     let read = damaged_as c.in-Err-outcome.why name (sym c.told_as.ensures ∙ told) in
-    (c.in-Err-outcome.ensures.damaged name (ap Err read)).1
+    let damaged = c.in-Err-outcome.ensures.damaged name (ap Err read) in
+    let task = plain_task c.in-Ok-Some.task in
+    let found : c.in-Ok-Some.field-0 ≡ Some c.in-Ok-Some.task = cc in
+    let of = subst (λ found. IfSome found (λ task. IsTaskOf (view_of c.args.self.now) (plain_task task))) found c.in-Ok-Some.ensures.of in
+    (damaged_in c.args.self.now.version name c.args.self.now.state.manifest.files of.files of.cited (inputs_in task) of.inputs damaged.0, damaged.1)
 
-pub returns-in_err-made-clause-fetched : goal.returns-in_err-made-clause-fetched
-returns-in_err-made-clause-fetched g c = λ name e.
+pub returns-in_err-made-clause-damaged : goal.returns-in_err-made-clause-damaged
+returns-in_err-made-clause-damaged g c = λ name e.
     let why = c.in_err-made.field-0.0 in
     let refusal : c.from_residual.result ≡ Err why = search rules in
     let told : why ≡ Damaged name = cc in
     absurd (not_short why c.in_err-made.ensures.refused name told)
 
-pub returns-in_err-merge_now-clause-fetched : goal.returns-in_err-merge_now-clause-fetched
-returns-in_err-merge_now-clause-fetched g c = λ name e.
+pub returns-in_err-merge_now-clause-damaged : goal.returns-in_err-merge_now-clause-damaged
+returns-in_err-merge_now-clause-damaged g c = λ name e.
     let old = c.args.self.now.state in
     let now = g.D.Disk.faults c.merge_now.new.self.disk in
     let why = c.in_err-merge_now.field-0.0 in

@@ -1,5 +1,5 @@
 use Rattle.std.proofs.Common.{◌≡◌, ◌≤◌, ◌∙◌, List, None, Some, ap, arith, map, rules, subst, sym}
-use Rattle.std.specs.Prelude.{All, IsTrue}
+use Rattle.std.specs.Prelude.{All, Contains, IsTrue}
 use Rattle.std.specs.List.{AllZip}
 use Rattle.lethe_fade.specs.declared.plan.Plan.{Plan}
 use Rattle.lethe_manifest.specs.declared.manifest.Cited.{Cited}
@@ -86,4 +86,5 @@ returns-clause-of g c =
     let same = c.items.ensures ∙ ap (λ (m : Manifest). m.files) c.manifest-manifest.ensures in
     let cited = subst (λ (cited : List Cited). AllZip (IsCitedAs view.levels) cited files) same c.in_ok-files.ensures.each in
     let some = subst (λ files. counted_in (inputs_in (plain_task c.in_ok-task.task)) ≤ counted_in (map plain_file files)) c.deref-2.ensures.value c.in_ok-task.ensures.some_of in
-    record { files = files; cited = cited; some = some }
+    let inputs = subst (λ files. All (Contains (map plain_file files)) (inputs_in (plain_task c.in_ok-task.task))) c.deref-2.ensures.value c.in_ok-task.ensures.inputs in
+    record { files = files; cited = cited; inputs = inputs; some = some }
