@@ -11,3 +11,5 @@ pub mod Next
 pub mod Told
 mod Adding
 mod Pieces
+pub mod Hulls
+pub mod Claimed

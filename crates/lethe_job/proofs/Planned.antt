@@ -61,7 +61,7 @@ with_same : (keys : KeyRange) (files : List StoredFile) → hull_with keys files
 with_same keys [] = refl
 with_same keys (file ∷ files) = ap (λ own. hull_with (joined keys own) files) (range_same file) ∙ with_same (joined keys (range_of file)) files
 
-hull_same : (files : List StoredFile) → hull_in files ≡ hull_of files
+pub hull_same : (files : List StoredFile) → hull_in files ≡ hull_of files
 hull_same [] = refl
 hull_same (file ∷ files) = ap (λ own. hull_with own files) (range_same file) ∙ with_same (range_of file) files
 

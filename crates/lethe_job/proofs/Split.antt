@@ -47,13 +47,13 @@ module _ {X : Type 0} (range : X → KeyRange) (keys : KeyRange) where
   abbrev pub does_meet : X → Bool
   does_meet x = overlaps keys (range x)
 
-  lower_clear : (x : X) → IsLower x → does_meet x ≡ false
+  pub lower_clear : (x : X) → IsLower x → does_meet x ≡ false
   lower_clear x lower = ap (λ b. b && is_le (key_cmp (range x).lo keys.hi)) (is_false (is_le (key_cmp keys.lo (range x).hi)) (not_less (range x).hi keys.lo lower))
 
-  higher_clear : (x : X) → IsHigher x → does_meet x ≡ false
+  pub higher_clear : (x : X) → IsHigher x → does_meet x ≡ false
   higher_clear x higher = and_false (is_le (key_cmp keys.lo (range x).hi)) (is_le (key_cmp (range x).lo keys.hi)) (is_false (is_le (key_cmp (range x).lo keys.hi)) (not_less keys.hi (range x).lo higher))
 
-  none_meet : (xs : List X) → ((x : X) → Contains xs x → does_meet x ≡ false) → filter does_meet xs ≡ []
+  pub none_meet : (xs : List X) → ((x : X) → Contains xs x → does_meet x ≡ false) → filter does_meet xs ≡ []
   none_meet [] clear = refl
   none_meet (x ∷ xs) clear =
       cond-false (does_meet x) (x ∷ filter does_meet xs) (filter does_meet xs) (clear x (first_is x xs x refl)) ∙ none_meet xs (λ y there. clear y (in_rest x xs y there))

@@ -3,5 +3,6 @@ pub mod Tasks
 pub mod Chosen
 pub mod SweepTasks
 pub mod Works
+pub mod Claims
 pub mod MadeOf
 pub mod Jobs

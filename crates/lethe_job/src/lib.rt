@@ -1,6 +1,7 @@
 //! A job: the merge or the sweep that is due, what it makes, and the pages that it writes.
 #![tactic(auto)]
 
+mod claim;
 mod filed;
 mod inputs;
 mod job;
@@ -17,7 +18,10 @@ mod task;
 
 pub use filed::{Filed, cited_files};
 pub use job::{Job, Piece};
-pub use laws::{plan_is_in_the_store, plan_is_named, shape_is_of_the_layout, task_stays};
+pub use laws::{
+    claim_is_chosen, plan_is_in_the_store, plan_is_named, shape_is_of_the_layout, task_is_free,
+    task_stays,
+};
 pub use made::Made;
 pub use merge::MergeTask;
 pub use number::{Begun, BegunJobs};

@@ -1,12 +1,16 @@
 //! The keys that files reach.
-ghost use Rattle.std.specs.Prelude.{◌≡◌, ◌<◌, map, length};
+ghost use Rattle.std.specs.Prelude.{◌≡◌, ◌<◌, map, length, IfOk};
+ghost use Rattle.lethe_fade.specs.Claims.{claim_over};
 ghost use Rattle.lethe_fade.specs.Spans.{joined, overlaps};
+ghost use Rattle.lethe_header.specs.Facts.{least_key, greatest_key};
 ghost use Rattle.lethe_job.specs.Chosen.{range_in, hull_in, hull_with};
 ghost use Rattle.lethe_job.specs.Tasks.{plain_file};
 
 use crate::filed::Filed;
-use lethe_base::Key;
+use lethe_base::{Key, NoMemory};
 use lethe_disk::Disk;
+use lethe_fade::Claim;
+use lethe_version::Shared;
 use std::marker::Model;
 
 /// The keys from one to another, both included, without copies of them. Contracts see the two keys.
@@ -32,6 +36,17 @@ impl<'a> Reach<'a> {
         Reach {
             lo: file.lo(),
             hi: file.hi(),
+        }
+    }
+
+    /// The same of a file whose level isn't told.
+    pub fn of_file<D: Disk>(file: &'a Shared<D>) -> Reach<'a>
+        ensures { result ≡ record { lo = least_key file.now.file.value.header.tiles; hi = greatest_key file.now.file.value.header.tiles } }
+    {
+        let tiles = file.file().header().tiles.items();
+        Reach {
+            lo: &tiles[0].lo,
+            hi: &tiles[tiles.len() - 1].hi,
         }
     }
 
@@ -77,5 +92,19 @@ impl<'a> Reach<'a> {
         ensures { result ≡ overlaps self.now other.now }
     {
         self.lo <= other.hi && other.lo <= self.hi
+    }
+
+    /// The claim on the levels from one to another, with copies of the two keys.
+    pub fn claim(&self, first: u64, last: u64) -> Result<Claim, NoMemory>
+        ensures { IfOk result (λ claim. claim ≡ claim_over first last self.now) }
+    {
+        let lo = self.lo.copy()?;
+        let hi = self.hi.copy()?;
+        Ok(Claim {
+            first,
+            last,
+            lo,
+            hi,
+        })
     }
 }

@@ -5,16 +5,18 @@ ghost use Rattle.lethe_base.specs.declared.name.Name.{Name};
 ghost use Rattle.lethe_disk.specs.Reads.{HasReadCause, IsFault};
 ghost use Rattle.lethe_disk.specs.declared.cursor.ReadRefused.TheVariants.{Damaged};
 ghost use Rattle.lethe_stored.specs.Stored.{Stored};
+ghost use Rattle.lethe_job.specs.Claims.{IsOfItsKind, claim_of_task};
 ghost use Rattle.lethe_job.specs.Tasks.{AreSound, HasDamaged, IsStore, counted_in, plain_file};
 ghost use Rattle.lethe_job.specs.Works.{AreOutputs, IsInLevels, IsNamedBy, IsPlanIn, IsPlanned, applied_upto, erases_of, inputs_in, plain_task, plan_of, reads_of};
 
+use crate::claim::{claim_of_merge, claim_of_sweep};
 use crate::filed::Filed;
 use crate::made::Made;
 use crate::merge::{MergeTask, merge_of};
 use crate::sweep::sweep_of;
 use lethe_base::{Config, NoMemory, Pending};
 use lethe_disk::{Disk, ReadRefused};
-use lethe_fade::Plan;
+use lethe_fade::{Claim, Plan};
 use lethe_sweep_task::SweepTask;
 use std::alloc::Global;
 
@@ -39,6 +41,7 @@ pub fn task_of<D: Disk>(
 ) -> Result<Task<D>, NoMemory>
     requires named { IsNamedBy config.now.levels (map plain_file files.now) erases.now plan.file plan.erase }
     ensures plan { IfOk result (λ task. plan_of (plain_task task) ≡ plan) }
+    ensures kind { IfOk result (λ task. IsOfItsKind (plain_task task)) }
     ensures planned { (s : Stored) → IsStore s files.now config.now erases.now count → IsPlanIn s plan.file plan.erase → IfOk result (λ task. IsPlanned s (plain_task task)) }
 
     // On any disk:
@@ -62,6 +65,16 @@ pub fn task_of<D: Disk>(
 }
 
 impl<D: Disk> Task<D> {
+    /// What it claims while it runs, with copies of the keys. A merge that has no source is of no store, and counts as one for which there is no memory.
+    pub fn claim(&self) -> Result<Claim, NoMemory>
+        ensures { IfOk result (λ claim. claim ≡ claim_of_task (plain_task self.now)) }
+    {
+        match self {
+            Task::Merge(merge) => claim_of_merge(merge),
+            Task::Sweep(sweep) => claim_of_sweep(sweep),
+        }
+    }
+
     /// What it makes: of a merge the drafts of what is left of the inputs' entries where its erases are applied, for which each page of the inputs is fetched once and all their
     /// entries are held in memory; of a sweep the draft of what its erase leaves of the file, for which the pages are fetched that the header tells.
     pub fn outcome(&self, alloc: Global, port: &mut D::Port) -> Result<Made, ReadRefused>
