@@ -38,5 +38,6 @@ module _ (V E M : RattleType) (g : BehindGhosts V.Denot E.Denot M.Denot) (s : Is
   turn_sync = declared_sync (Turn.the_type V E M g)
       (table_sync (Option.the_row V) (View.the_row V E M) (Opening.the_row V) (Ticketed.the_row V) Heap.the_row (rule.ghosts V E M g rule.no_dict) ghosts (option_send V s) heap.send heap.sync (record { frees = heap.frees.frees }), tt)
 
+module _ (V E M : RattleType) (s : IsSend V) where
   pub seat_send : IsSend (Seat.the_row (Option.the_row V) (View.the_row V E M))
   seat_send = seats.the_send _ _ (option_send V s)
