@@ -1,7 +1,10 @@
 -- What a seat knows behind its turn.
-use Rattle.std.proofs.Common.{◌≡◌, ◌<◌, ℕ, List, [], refl, sym, ◌∙◌, subst, arith}
-use Rattle.lethe_turn.specs.Seats.{Finished, HasSeenMore, Joined, Seated, first_view, left_of, passed, right_of}
-use Rattle.lethe_test_crossing.specs.Ready.{IsReady}
+use Rattle.std.proofs.Common.{◌≡◌, ◌<◌, ℕ, List, [], Some, refl, sym, ◌∙◌, subst, arith}
+use Rattle.lethe_turn.specs.Seats.{Finished, HasSeenMore, IsFree, Joined, Seated, first_view, left_of, passed, right_of}
+
+-- the seat has no turn, and knows what the turn began with
+abbrev pub IsReady : {E M V : Type 0} → Seated E M V → Type 0
+IsReady {E} {M} {V} m = IsFree m × ((opened : V) × (m.0.opened ≡ Some opened))
 
 pub ready_again : {E M V : Type 0} (before held after : Seated E M V) → IsReady before → HasSeenMore before.0 held.0 → after ≡ (passed held.0, []) → IsReady after
 ready_again before held after ready more is =

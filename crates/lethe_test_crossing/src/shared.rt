@@ -1,8 +1,8 @@
 //! A store behind a turn that two threads hold.
-ghost use Rattle.std.specs.Prelude.{◌≡◌, IfOk, IfErr};
+ghost use Rattle.std.specs.Prelude.{◌≡◌, Some, IfOk, IfErr};
 ghost use Rattle.lethe_core.specs.Running.{IsSound};
 ghost use Rattle.lethe_core.specs.View.{view_of};
-ghost use Rattle.lethe_test_crossing.specs.Ready.{IsReady};
+ghost use Rattle.lethe_turn.specs.Seats.{IsFree};
 
 use crate::common::put;
 use lethe_disk::Disk;
@@ -47,9 +47,9 @@ fn put_in_turn<D: Disk, R: Wait>(
     mut seat: Seat<Lent<D>>,
 ) -> Seat<Lent<D>>
     requires of { seat.table_id ≡ turn.now.table.shared.table_id }
-    requires ready { IsReady seat.me }
+    requires ready { IsFree seat.me × ((opened : _) × (seat.me.0.opened ≡ Some opened)) }
     ensures of { result.table_id ≡ seat.table_id }
-    ensures ready { IsReady result.me }
+    ensures ready { IsFree result.me × ((opened : _) × (result.me.0.opened ≡ Some opened)) }
 {
     let mut held = turn.take(rt, &mut seat);
     let _ = put(alloc, &mut held.value.engine, "b", "shared");
@@ -67,8 +67,8 @@ struct Opened<D: Disk> {
 fn open_turn<D: Disk>(alloc: Global, engine: Engine<D>) -> Result<Opened<D>, (Engine<D>, NoMemory)>
     requires { IsSound D.tells (view_of engine.core) }
     ensures of { IfOk result (λ o. (o.one.table_id ≡ o.turn.table.shared.table_id) × (o.other.table_id ≡ o.turn.table.shared.table_id)) }
-    ensures one { IfOk result (λ o. IsReady o.one.me) }
-    ensures other { IfOk result (λ o. IsReady o.other.me) }
+    ensures one { IfOk result (λ o. IsFree o.one.me × ((opened : _) × (o.one.me.0.opened ≡ Some opened))) }
+    ensures other { IfOk result (λ o. IsFree o.other.me × ((opened : _) × (o.other.me.0.opened ≡ Some opened))) }
     ensures back { IfErr result (λ refused. IsSound D.tells (view_of refused.0.core)) }
 {
     match Turn::new(alloc, Lent { engine }, 0) {
@@ -91,7 +91,7 @@ fn close_turn<D: Disk, R: Wait>(
     other: Seat<Lent<D>>,
 ) -> Engine<D>
     requires of { (one.table_id ≡ turn.table.shared.table_id) × (other.table_id ≡ turn.table.shared.table_id) }
-    requires ready { IsReady one.me × IsReady other.me }
+    requires ready { (IsFree one.me × ((opened : _) × (one.me.0.opened ≡ Some opened))) × (IsFree other.me × ((opened : _) × (other.me.0.opened ≡ Some opened))) }
     ensures { IsSound D.tells (view_of result.core) }
 {
     turn.join(&mut one, other);
@@ -115,12 +115,12 @@ pub fn put_both<D: Disk, R: Threads + Wait + Sync>(
     let (one, other) = join(
         rt,
         move || -> Seat<Lent<D>>
-            requires { (one.table_id ≡ shared.now.table.shared.table_id) × IsReady one.me }
-            ensures { (result.table_id ≡ one.table_id) × IsReady result.me }
+            requires { (one.table_id ≡ shared.now.table.shared.table_id) × (IsFree one.me × ((opened : _) × (one.me.0.opened ≡ Some opened))) }
+            ensures { (result.table_id ≡ one.table_id) × (IsFree result.me × ((opened : _) × (result.me.0.opened ≡ Some opened))) }
         { put_in_turn(rt, alloc, shared, one) },
         move || -> Seat<Lent<D>>
-            requires { (other.table_id ≡ shared.now.table.shared.table_id) × IsReady other.me }
-            ensures { (result.table_id ≡ other.table_id) × IsReady result.me }
+            requires { (other.table_id ≡ shared.now.table.shared.table_id) × (IsFree other.me × ((opened : _) × (other.me.0.opened ≡ Some opened))) }
+            ensures { (result.table_id ≡ other.table_id) × (IsFree result.me × ((opened : _) × (result.me.0.opened ≡ Some opened))) }
         { put_in_turn(rt, alloc, shared, other) },
     );
     Ok(close_turn(rt, turn, one, other))
