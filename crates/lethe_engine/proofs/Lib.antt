@@ -14,3 +14,4 @@ pub mod Clean
 pub mod Rounds
 pub mod Ticks
 pub mod Certified
+pub mod Crossing
