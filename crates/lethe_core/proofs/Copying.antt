@@ -17,12 +17,11 @@ use Rattle.lethe_cover.proofs.Common.{none_in}
 use Rattle.lethe_cover.proofs.Lists.{flat_from, in_map, map_from}
 use Rattle.lethe_file.specs.Agreement.{page_name}
 use Rattle.lethe_file.specs.Agreement as agreement
-use Rattle.lethe_flush.specs.Made.{pages_in}
 use Rattle.lethe_follows.specs.Merged.{StoredMerge, entries_in, inputs_of}
 use Rattle.lethe_follows.proofs.Following.{file_in}
 use Rattle.lethe_header.specs.Facts.{lines_of}
 use Rattle.lethe_header.specs.declared.header.PageLine.{PageLine}
-use Rattle.lethe_job.specs.MadeOf.{pages_of}
+use Rattle.lethe_job.specs.MadeOf.{pages_in, pages_of}
 use Rattle.lethe_job.specs.Tasks.{IsMergeTask, PlainMerge, merge_inputs}
 use Rattle.lethe_job.specs.Works.{AreOutputs, IsTaskFor, Merges, PlainTask, Sweeps}
 use Rattle.lethe_job.specs.declared.made.Made.{Made}

@@ -10,7 +10,7 @@ use Rattle.lethe_manifest.specs.declared.manifest.Manifest.{Manifest}
 use Rattle.lethe_segment.specs.declared.record.Record.{Record}
 use Rattle.lethe_segment.specs.declared.record.Record.TheVariants as of
 use Rattle.lethe_commit.specs.Append.{EndsAt}
-use Rattle.lethe_flush.proofs.Newest.{inserts_few}
+use Rattle.lethe_state.proofs.Entering.{inserts_few}
 use Rattle.lethe_follows.specs.Young.{time_of}
 use Rattle.lethe_stored.specs.Files.{Parts}
 use Rattle.lethe_stored.specs.Replayed.{AreNewestOf}

@@ -16,11 +16,11 @@ use Rattle.lethe_advance.specs.Settled.{AreDrawn, names_in}
 use Rattle.lethe_advance.specs.Steps.{IsStep}
 use Rattle.lethe_pins.specs.Held.{is_named}
 use Rattle.lethe_pins.specs.declared.pin.Pin.{Pin}
-use Rattle.lethe_install.specs.Outcomes.{IsInstalled}
+pub use Rattle.lethe_install.specs.Outcomes.{AreFirst, IsInstalled, new_names}
 use Rattle.lethe_install.specs.declared.steps.Installation.{Installation}
 use Rattle.lethe_state.specs.Left.{left_with}
 use Rattle.lethe_state.specs.Room.{HasRoom, IsFrozen, IsUnfrozen}
-use Rattle.lethe_job.specs.Shapes.{due_shape, shape_of}
+pub use Rattle.lethe_job.specs.Shapes.{due_shape, shape_of}
 use Rattle.lethe_job.specs.MadeOf.{numbers_in}
 use Rattle.lethe_job.specs.Tasks.{IsCitedAs, counted_in}
 use Rattle.lethe_job.specs.Works.{AreOutputs, IsPlanned, PlainTask, inputs_in, plan_of, reads_of}

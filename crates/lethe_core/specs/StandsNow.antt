@@ -11,7 +11,7 @@ use Rattle.lethe_stored.specs.Kept.{IsFor}
 use Rattle.lethe_stored.specs.Left.{IsLeft, is_work, without_failed}
 use Rattle.lethe_state.specs.Remembered.{Remembers}
 use Rattle.lethe_job.specs.Tasks.{merge_inputs}
-use Rattle.lethe_job.specs.Works.{Merges, PlainTask, Sweeps}
+pub use Rattle.lethe_job.specs.Works.{Merges, PlainTask, Sweeps}
 use Rattle.lethe_core.specs.Pinned.{AreTimely}
 use Rattle.lethe_core.specs.Running.{IsRunning}
 use Rattle.lethe_core.specs.View.{View}

@@ -13,7 +13,7 @@ use Rattle.lethe_base.specs.declared.refused.Refused.{Refused}
 use Rattle.lethe_disk.specs.declared.disk.Disk.{Ghosts}
 use Rattle.lethe_stored.specs.Stored.{Stored}
 use Rattle.lethe_pins.specs.Held.{Held}
-use Rattle.lethe_install.specs.Outcomes.{AreFirst, IsInstalled, new_names}
+use Rattle.lethe_core.specs.Merges.{AreFirst, IsInstalled, new_names}
 use Rattle.lethe_job.specs.MadeOf.{numbers_in, pages_of}
 use Rattle.lethe_job.specs.Tasks.{AreSound}
 use Rattle.lethe_job.specs.Works.{PlainTask, inputs_in, plain_task}

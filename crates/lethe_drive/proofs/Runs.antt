@@ -22,10 +22,9 @@ use Rattle.lethe_manifest.specs.declared.manifest.Manifest.{Manifest}
 use Rattle.lethe_segment.specs.declared.record.Record.{Record}
 use Rattle.lethe_stored.specs.Stored.{Stored}
 use Rattle.lethe_state.specs.Room.{HasRoom}
-use Rattle.lethe_install.specs.Outcomes.{IsInstalled}
 use Rattle.lethe_job.specs.Works.{IsBegunIn, PlainTask}
 use Rattle.lethe_core.specs.Changes.{put_over}
-use Rattle.lethe_core.specs.Merges.{IsRoomMadeBy}
+use Rattle.lethe_core.specs.Merges.{IsInstalled, IsRoomMadeBy}
 use Rattle.lethe_core.specs.Reasons.{HasReason, IsShort, IsUnreadable}
 use Rattle.lethe_engine.specs.Refusals.{SeesRoom}
 use Rattle.lethe_drive.specs.Answers.{HasBegun, IsBegin, IsChange, IsChanged, IsFull, IsInstall, IsRead, IsShortToMerge, IsUnchanged, IsWriteOut}

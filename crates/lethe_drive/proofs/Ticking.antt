@@ -27,8 +27,7 @@ use Rattle.lethe_core.specs.Running.{Holds}
 use Rattle.lethe_core.specs.View.{Face, View, face_of}
 use Rattle.lethe_core.proofs.Asked.{refused_none}
 use Rattle.lethe_core.proofs.Installing.{planned_for, sound_inputs}
-use Rattle.lethe_tick.specs.Certified.{IsCertificateAt}
-use Rattle.lethe_tick.specs.Ripened.{IsRipened, IsShortToTick, IsTickedInPart}
+use Rattle.lethe_engine.specs.Ticks.{IsCertificateAt, IsRipened, IsShortToTick, IsTickedInPart}
 use Rattle.lethe_engine.specs.Answers.{IsRefused, IsStill}
 use Rattle.lethe_engine.specs.StandsFor.{Opened, StandsSince}
 use Rattle.lethe_engine.specs.Ticks as engine

@@ -21,7 +21,6 @@ use Rattle.lethe_merge.specs.Merge.{merged}
 use Rattle.lethe_segment.specs.declared.record.Record.{Record}
 use Rattle.lethe_stored.specs.Stored.{Stored, appended}
 use Rattle.lethe_state.specs.Records.{headers_in}
-use Rattle.lethe_install.specs.Outcomes.{AreFirst, IsInstalled}
 use Rattle.lethe_sweep_task.specs.Outcome.{IsDraftLeft}
 use Rattle.lethe_job.specs.MadeOf.{numbers_in, pages_of}
 use Rattle.lethe_job.specs.Tasks.{merge_inputs}
@@ -30,7 +29,7 @@ use Rattle.lethe_job.specs.declared.made.Made.{Made}
 use Rattle.lethe_job.specs.declared.made.Made.TheVariants.{Files, Left}
 use Rattle.lethe_core.specs.Asked.{Serves, behind, failure_of, refused_to}
 use Rattle.lethe_core.specs.Jobs.{with_page}
-use Rattle.lethe_core.specs.Merges.{AreRetiredBehind, HasNoMerge, IsRoomBegun, IsRoomMadeBy, Outcome}
+use Rattle.lethe_core.specs.Merges.{AreFirst, AreRetiredBehind, HasNoMerge, IsInstalled, IsRoomBegun, IsRoomMadeBy, Outcome}
 use Rattle.lethe_core.specs.Merges as merges
 use Rattle.lethe_core.specs.Pinned.{AreNamed}
 use Rattle.lethe_core.specs.Reasons.{HasReason, IsShort, IsUnreadable}

@@ -8,7 +8,7 @@ use Rattle.lethe_base.specs.declared.config.Fields.{Fields}
 use Rattle.lethe_base.specs.declared.refused.Refused.{Refused}
 use Rattle.lethe_state.specs.Room.{IsFlushed, IsFrozen, IsShortToFlush, IsShortToFreeze}
 use Rattle.lethe_core.specs.Changes.{erase_over, put_over}
-use Rattle.lethe_row.specs.Deletes.{IsDeleteOver}
+use Rattle.lethe_engine.specs.Rows.{IsDeleteOver}
 use Rattle.lethe_engine.specs.Reads.{listed}
 use Rattle.lethe_engine.specs.Work.{HasNoFlush, HasNoFreeze}
 use Rattle.lethe_engine.specs.declared.ticking.Ticked.{Ticked}

@@ -19,10 +19,8 @@ use Rattle.lethe_core.specs.Merges.{AreOutcomesBy, IsBegunBy, Outcome, due_choic
 use Rattle.lethe_core.specs.Pinned.{AreNamed}
 use Rattle.lethe_core.specs.Reasons.{HasReason, IsUnreadable}
 use Rattle.lethe_engine.specs.Certificates.{IsTrueCertificate}
-use Rattle.lethe_engine.specs.Ticks.{lets_pass}
+use Rattle.lethe_engine.specs.Ticks.{IsCertificateAt, IsRipened, IsTickedInPart, lets_pass}
 use Rattle.lethe_engine.specs.declared.ticking.Ticked.{Ticked}
-use Rattle.lethe_tick.specs.Certified.{IsCertificateAt}
-use Rattle.lethe_tick.specs.Ripened.{IsRipened, IsTickedInPart}
 use Rattle.lethe_drive.specs.Answers.{AreOutputsFor, StopsIn}
 use Rattle.lethe_drive.specs.Moments.{ArePinsSame, IsAllButPort, Moment}
 

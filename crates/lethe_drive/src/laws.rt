@@ -9,7 +9,7 @@ ghost use Rattle.lethe_base.specs.declared.call.Call.TheVariants as call;
 ghost use Rattle.lethe_base.specs.declared.config.Fields.{Fields};
 ghost use Rattle.lethe_base.specs.declared.refused.Refused.TheVariants.{Exhausted, NoMemory};
 ghost use Rattle.lethe_cover.specs.Steps.{with_done};
-ghost use Rattle.lethe_install.specs.Outcomes.{IsInstalled};
+ghost use Rattle.lethe_core.specs.Merges.{IsInstalled};
 ghost use Rattle.lethe_job.specs.Works.{PlainTask, IsBegunIn};
 ghost use Rattle.lethe_drive.specs.Moments.{IsMomentOf};
 ghost use Rattle.lethe_drive.specs.Past.{Run};

@@ -6,6 +6,7 @@ use Rattle.lethe_base.specs.declared.refused.Refused.{Refused}
 use Rattle.lethe_disk.specs.Goes.{Goes}
 use Rattle.lethe_core.specs.View.{View, face_of}
 use Rattle.lethe_row.specs.Along.{IsRow, row_behind}
+pub use Rattle.lethe_row.specs.Deletes.{IsDeleteOver}
 use Rattle.lethe_row.specs.declared.asking.Asked.{Asked}
 use Rattle.lethe_engine.specs.Answers.{IsStill}
 use Rattle.lethe_engine.specs.StandsFor.{IsKeptFor, Opened, StandsSince}

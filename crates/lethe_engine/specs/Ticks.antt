@@ -8,7 +8,8 @@ use Rattle.lethe_pins.specs.Held.{first_limit_of}
 use Rattle.lethe_pins.specs.declared.pin.Pin.{Pin}
 use Rattle.lethe_core.specs.Reasons.{HasReason, IsUnreadable}
 use Rattle.lethe_core.specs.View.{Face, View, face_of}
-use Rattle.lethe_tick.specs.Ripened.{IsShortToTick}
+pub use Rattle.lethe_tick.specs.Certified.{IsCertificateAt}
+pub use Rattle.lethe_tick.specs.Ripened.{IsRipened, IsShortToTick, IsTickedInPart}
 use Rattle.lethe_engine.specs.declared.ticking.Ticked.{Ticked}
 
 -- the first limit of the pins that are held is above the time, so that all are

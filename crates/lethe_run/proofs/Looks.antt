@@ -12,7 +12,7 @@ use Rattle.lethe_core.specs.View.{View}
 use Rattle.lethe_read.specs.Refusals.{IsReadRefusal}
 use Rattle.lethe_engine.specs.Stats.{IsStatOf}
 use Rattle.lethe_engine.specs.declared.telling.Stat.{Stat}
-use Rattle.lethe_job.specs.Shapes.{due_shape}
+use Rattle.lethe_core.specs.Merges.{due_shape}
 use Rattle.lethe_state.specs.Remembered.{Remembers}
 use Rattle.lethe_stored.specs.Kept.{IsFor}
 use Rattle.lethe_stored.specs.Left.{without_failed}

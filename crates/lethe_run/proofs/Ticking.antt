@@ -25,7 +25,7 @@ use Rattle.lethe_cover.specs.Steps.{with_done}
 use Rattle.lethe_disk.specs.Directory.{Directory}
 use Rattle.lethe_disk.specs.Disk.{IsSynced}
 use Rattle.lethe_engine.specs.Certificates.{HasCommitted, IsTrueCertificate}
-use Rattle.lethe_engine.specs.Ticks.{HasReasonOfTick, IsBarred, IsBehind, IsTickable, ticked_face}
+use Rattle.lethe_engine.specs.Ticks.{HasReasonOfTick, IsBarred, IsBehind, IsCertificateAt, IsShortToTick, IsTickable, ticked_face}
 use Rattle.lethe_engine.specs.declared.ticking.Ticked.{Ticked}
 use Rattle.lethe_engine.proofs.Clean.{now_clean}
 use Rattle.lethe_manifest.specs.declared.manifest.Manifest.{Manifest}
@@ -36,8 +36,6 @@ use Rattle.lethe_state.specs.Room.{frozen_len}
 use Rattle.lethe_stored.specs.Clean.{IsClean}
 use Rattle.lethe_stored.specs.Kept.{certificates}
 use Rattle.lethe_stored.specs.Left.{without_failed}
-use Rattle.lethe_tick.specs.Certified.{IsCertificateAt}
-use Rattle.lethe_tick.specs.Ripened.{IsShortToTick}
 use Rattle.lethe_run.specs.declared.reply.Reply.TheVariants as reply
 use Rattle.lethe_run.specs.Holding.{HoldsPins}
 use Rattle.lethe_run.specs.Replies.{IsOfTick, refusal_of, tick_refusal_of, tick_reply_of}

@@ -8,7 +8,7 @@ use Rattle.lethe_base.specs.Keys.{Bytes}
 use Rattle.lethe_base.specs.Counts.{Rose}
 use Rattle.lethe_base.specs.Configuration.{greatest_of}
 use Rattle.lethe_base.specs.Limits.{max_place}
-use Rattle.lethe_job.specs.Shapes.{due_shape}
+use Rattle.lethe_core.specs.Merges.{due_shape}
 use Rattle.lethe_base.specs.declared.config.Field.TheVariants.{Buffer}
 use Rattle.lethe_base.specs.declared.config.Fields.{Fields}
 use Rattle.lethe_build.specs.Built.{most_numbers}
@@ -26,7 +26,7 @@ use Rattle.lethe_run.specs.declared.reply.Reply.TheVariants as reply
 use Rattle.lethe_stored.specs.Kept.{IsFor, certificates}
 use Rattle.lethe_stored.specs.Left.{without_failed}
 use Rattle.lethe_stored.specs.Stored.{Stored, IsCoherent, layout_of}
-use Rattle.lethe_tick.specs.Certified.{IsCertificateAt}
+use Rattle.lethe_engine.specs.Ticks.{IsCertificateAt}
 use Rattle.lethe_engine.specs.Stats.{IsStatOf}
 use Rattle.lethe_engine.specs.declared.ticking.Ticked.{Ticked}
 use Rattle.lethe_engine.specs.declared.telling.Stat as stats

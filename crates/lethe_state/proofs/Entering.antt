@@ -19,6 +19,7 @@ use Rattle.lethe_segment.specs.declared.record.Record.{Record}
 use Rattle.lethe_segment.specs.declared.record.Record.TheVariants as of
 use Rattle.lethe_stored.specs.Replayed.{AreNewestOf}
 use Rattle.lethe_flush.proofs.Newest.{newest_entered, newest_still}
+pub use Rattle.lethe_flush.proofs.Newest.{inserts_few}
 use Rattle.lethe_state.specs.Records.{Enters, IsNext, pending_with, since_of}
 use Rattle.lethe_state.specs.Writable.{IsWritable, segments_for}
 use Rattle.lethe_state.specs.declared.state.State.{State}

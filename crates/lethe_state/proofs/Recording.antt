@@ -28,7 +28,7 @@ use Rattle.lethe_stored.specs.Replayed.{AreNewestOf}
 use Rattle.lethe_stored.specs.Stored.{Stored, Segment, IsCoherent, appended, count_of, layout_of, pending_of, records_in}
 use Rattle.lethe_stored.proofs.Appended.{pending_appended}
 use Rattle.lethe_stored.proofs.Changes.{blind_for, blind_stored, delete_for, delete_stored, erase_for, erase_stored, put_for, put_stored}
-use Rattle.lethe_flush.proofs.Newest.{newest_none}
+pub use Rattle.lethe_flush.proofs.Newest.{newest_none}
 use Rattle.lethe_follows.specs.Holders.{IsHeldBy}
 use Rattle.lethe_follows.proofs.Answering.{lacking}
 use Rattle.lethe_state.specs.Firsts.{firsts_with}

@@ -13,8 +13,6 @@ use Rattle.lethe_follows.proofs.NothingDue.{nothing_due}
 use Rattle.lethe_follows.proofs.Young.{young_by}
 use Rattle.lethe_follows.specs.Leaving.{let_go}
 use Rattle.lethe_follows.specs.Young.{AreLaterRecorded, AreYoung, oldest_in}
-use Rattle.lethe_install.specs.Outcomes.{IsInstalled}
-use Rattle.lethe_job.specs.Works.{Merges, PlainTask, Sweeps}
 use Rattle.lethe_manifest.specs.declared.manifest.Manifest.{Manifest}
 use Rattle.lethe_moves.specs.Due.{HasNothingDue}
 use Rattle.lethe_state.specs.Room.{IsUnfrozen}
@@ -26,10 +24,10 @@ use Rattle.lethe_stored.specs.Stored.{Segment, Stored, IsCoherent, layout_of, re
 use Rattle.lethe_pins.specs.Held.{is_named}
 use Rattle.lethe_pins.specs.declared.pin.Pin.{Pin}
 use Rattle.lethe_core.specs.Keeps.{Keeps, MayStep}
-use Rattle.lethe_core.specs.Merges.{AreOutcomesBy, AreSomeOutcomesBy, HasNoMergeBy, Outcome, due_choice}
+use Rattle.lethe_core.specs.Merges.{AreOutcomesBy, AreSomeOutcomesBy, HasNoMergeBy, IsInstalled, Outcome, due_choice}
 use Rattle.lethe_core.specs.Pinned.{AreKept, AreNamed}
 use Rattle.lethe_core.specs.Running.{Holds}
-use Rattle.lethe_core.specs.StandsNow.{StandsNow}
+use Rattle.lethe_core.specs.StandsNow.{Merges, PlainTask, StandsNow, Sweeps}
 use Rattle.lethe_core.specs.View.{View}
 use Rattle.lethe_core.proofs.Standing.{stands_for, stands_holds}
 use Rattle.lethe_tick.specs.Ripened.{AreBuffersFlushed, IsFrozenIfAny, IsRipened}

@@ -14,7 +14,7 @@ use Rattle.lethe_state.specs.Room.{IsFlushed, IsFrozen, IsShortToFlush, IsShortT
 use Rattle.lethe_core.specs.Asked.{Makes, Serves, behind}
 use Rattle.lethe_core.specs.Changes.{erase_over, put_over}
 use Rattle.lethe_core.specs.View.{Face, View, view_of}
-use Rattle.lethe_row.specs.Deletes.{IsDeleteOver}
+use Rattle.lethe_engine.specs.Rows.{IsDeleteOver}
 use Rattle.lethe_engine.specs.Reads.{listed}
 use Rattle.lethe_engine.specs.StandsFor.{Opened, StandsFor}
 use Rattle.lethe_engine.specs.Ticks.{answered_by}

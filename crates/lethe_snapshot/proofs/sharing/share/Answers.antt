@@ -1,5 +1,5 @@
 use Rattle.std.proofs.Common.{[], map, subst, ap}
-use Rattle.lethe_flush.proofs.Results.{ok_weaker}
+use Rattle.std.proofs.lemmas.Result.{IfOk-weaker}
 use Rattle.lethe_version.specs.Versions.{levels_of}
 use Rattle.lethe_advance.specs.Shown.{AreLevelsWith, new_parts, parts_by_level, parts_in}
 use Rattle.lethe_advance.proofs.Opened.{levels_with}
@@ -15,7 +15,7 @@ returns-clause-levels g c =
     subst (λ added. AreLevelsWith [] added (map (map parts_in) old) (map (map parts_in) (levels_of next))) (ap (map new_parts) c.new.ensures.items) made)
 
 pub returns-clause-files : goal.returns-clause-files
-returns-clause-files g c = λ s has. ok_weaker c.with.result _ _ (returns-clause-levels g c) (λ next made. same_files s (parts_by_level c.args.version.now) (parts_by_level next) made has)
+returns-clause-files g c = λ s has. IfOk-weaker c.with.result _ _ (λ next made. same_files s (parts_by_level c.args.version.now) (parts_by_level next) made has) (returns-clause-levels g c)
 
 pub returns-clause-same : goal.returns-clause-same
-returns-clause-same g c = ok_weaker c.with.result _ _ (returns-clause-levels g c) (λ next made. unchanged_files (parts_by_level c.args.version.now) (parts_by_level next) made)
+returns-clause-same g c = IfOk-weaker c.with.result _ _ (λ next made. unchanged_files (parts_by_level c.args.version.now) (parts_by_level next) made) (returns-clause-levels g c)

@@ -3,7 +3,7 @@ use Rattle.std.specs.Result.{result_err}
 use Rattle.lethe_base.specs.declared.refused.Refused.{Refused}
 use Rattle.std.specs.Prelude.{IfErr, IfSome, OnOk, option_map}
 use Rattle.lethe_advance.specs.Settled.{names_in}
-use Rattle.lethe_flush.proofs.Results.{ok_weaker}
+use Rattle.std.proofs.lemmas.Result.{IfOk-weaker}
 use Rattle.lethe_stored.specs.Stored.{Stored}
 use Rattle.lethe_install.specs.Outcomes.{AreFirst, IsInstalled}
 use Rattle.lethe_job.specs.Works.{plain_task}
@@ -53,4 +53,4 @@ returns-clause-done g c = λ told s holds.
     let next = next_install g.D.Disk.tells view c.requires.may.sound.drawn flying flies c.args.made outputs c.in_ok-made.made (plain_task c.deref.result.now) c.names.result.now c.deref-2.result.now
     c.in_ok-made.ensures.installs (ap plain_task c.deref.ensures) c.names.ensures (record { named = c.in_ok-made.ensures.named; gone = c.in_ok-made.ensures.gone }) (sym c.deref-2.ensures.value) told s holds in
     subst (λ flight. IfSome flight (λ flying. OnOk c.merge_now.result ((t : Stored) × IsInstalled s flying.task t × Holds after t × AreFirst (names_in flying.written) s t))) (sym flies)
-    (ok_weaker c.merge_now.result _ _ (c.merge_now.ensures.done told s flying.task next.0 holds next.1) (λ done holds. (next.0, next.1.installed, holds, next.2)))
+    (IfOk-weaker c.merge_now.result _ _ (λ done holds. (next.0, next.1.installed, holds, next.2)) (c.merge_now.ensures.done told s flying.task next.0 holds next.1))

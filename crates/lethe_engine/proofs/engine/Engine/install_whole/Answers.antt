@@ -16,7 +16,7 @@ use Rattle.lethe_core.proofs.Behind.{reason_behind}
 use Rattle.lethe_disk.proofs.Quieting.{on_ok}
 use Rattle.lethe_disk.specs.declared.disk.Disk.{Ghosts}
 use Rattle.lethe_stored.specs.Stored.{Stored}
-use Rattle.lethe_install.specs.Outcomes.{AreFirst, IsInstalled}
+use Rattle.lethe_core.specs.Merges.{AreFirst, IsInstalled}
 use Rattle.lethe_job.specs.MadeOf.{numbers_in}
 use Rattle.lethe_job.specs.Works.{plain_task}
 use Rattle.lethe_job.specs.declared.job.Job.{Job}
