@@ -30,7 +30,7 @@ use Rattle.lethe_stored.proofs.Leveled.{from_level, in_level, low_level, of_leve
 use Rattle.lethe_sweep_task.specs.Outcome.{PlainSweep}
 use Rattle.lethe_job.specs.Chosen.{hull_in, range_in}
 use Rattle.lethe_job.specs.Claims.{IsOfItsKind, claim_of_task}
-use Rattle.lethe_job.specs.Shapes.{due_shape, facts_at, shape_of}
+use Rattle.lethe_job.specs.Shapes.{due_shape, facts_at}
 use Rattle.lethe_job.specs.SweepTasks.{IsPlannedSweep}
 use Rattle.lethe_job.specs.Tasks.{IsPlannedMerge, PlainMerge}
 use Rattle.lethe_job.specs.Works.{IsPlanned, Merges, PlainTask, Sweeps, plan_of}
