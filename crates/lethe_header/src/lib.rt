@@ -17,3 +17,5 @@ pub use laws::one_header;
 pub use reading::read_header;
 pub use refused::HeaderRefused;
 pub use writing::write_header;
+
+pub use lethe_tile::Filter;
