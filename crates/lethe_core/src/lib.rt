@@ -14,8 +14,8 @@ mod working;
 
 pub use flight::Flight;
 pub use holding::Core;
-pub use lethe_snapshot::Snapshot;
 pub use laws::{
     any_job_goes_on, erases_are_counted, job_goes_on, jobs_are_bounded, jobs_are_few,
     room_is_bounded,
 };
+pub use lethe_snapshot::Snapshot;
