@@ -6,7 +6,7 @@ use Rattle.std.proofs.lemmas.List.Elements.{All-head, All-tail}
 use Rattle.std.proofs.lemmas.List.Sums.{sum_by-cons, sum_by_more_le, sum_by_push}
 use Rattle.std.proofs.lemmas.Slice.Zip.{length-zip}
 use Rattle.lethe_base.specs.declared.name.Name.{Name}
-use Rattle.lethe_file.specs.Agreement.{page_name}
+use Rattle.lethe_version.specs.Agreement.{page_name}
 use Rattle.lethe_header.specs.Facts.{lines_of}
 use Rattle.lethe_stored.specs.Files.{IsFile, StoredFile, lines_in, objects_in, objects_of}
 use Rattle.lethe_stored.proofs.FileFacts.{as_many}

@@ -9,7 +9,7 @@ use Rattle.std.proofs.lemmas.List.Sorted.{IsPermutation-refl, IsPermutation-map,
 use Rattle.std.proofs.lemmas.Simd.{map-map}
 use Rattle.lethe_base.proofs.Newest.{first_is}
 use Rattle.lethe_disk.specs.Directory.{Directory, object, content}
-use Rattle.lethe_file.specs.Agreement.{Agrees, page_name}
+use Rattle.lethe_version.specs.Agreement.{Agrees, page_name}
 use Rattle.lethe_base.specs.declared.name.Name.{Name}
 use Rattle.lethe_header.specs.declared.header.PageLine.{PageLine}
 use Rattle.lethe_stored.specs.Encodes.{HasParts, HasObject}

@@ -4,3 +4,6 @@ pub mod Steps
 pub mod Untorn
 pub mod Segment
 pub mod Calls
+pub use Rattle.lethe_version.specs.Versions
+pub use Rattle.lethe_commit.specs.declared.objects.Object
+pub use Rattle.lethe_version.specs.Order

@@ -3,8 +3,8 @@ use Rattle.std.specs.Prelude.{◌≡◌, ◌==◌, ◌<◌, ℕ, List, [], ◌++
 use Rattle.std.specs.List.Sorted.{IsPermutation}
 use Rattle.lethe_disk.specs.declared.disk.Disk.{Ghosts}
 use Rattle.lethe_disk.specs.Directory.{Directory, object, content}
-use Rattle.lethe_file.specs.Agreement.{page_name}
-use Rattle.lethe_file.specs.declared.view.FileView.{FileView}
+use Rattle.lethe_version.specs.Agreement.{page_name}
+use Rattle.lethe_version.specs.FileView.{FileView}
 use Rattle.lethe_header.specs.Facts.{lines_of}
 use Rattle.lethe_header.specs.declared.header.Header.{Header}
 use Rattle.lethe_stored.specs.Files.{Parts}

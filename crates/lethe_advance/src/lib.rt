@@ -9,6 +9,8 @@ mod segment;
 mod step;
 
 pub use advancing::advance;
+pub use lethe_commit::Object;
+pub use lethe_version::{Shared, Version};
 pub use new_header::NewHeader;
 pub use numbers::number_behind;
 pub use segment::empty_segment;

@@ -25,8 +25,8 @@ use Rattle.lethe_cover.proofs.Merging.{merged_outcome}
 use Rattle.lethe_file.specs.Agreement.{Agrees, page_name}
 use Rattle.lethe_file.specs.Agreement as agreement
 use Rattle.lethe_flush.specs.Made.{pages_in}
-use Rattle.lethe_follows.specs.Merged.{IsMergeIn, StoredMerge, entries_in, inputs_of}
-use Rattle.lethe_follows.proofs.Following.{file_from, file_in}
+use Rattle.lethe_flush.specs.Merged.{IsMergeIn, StoredMerge, entries_in, inputs_of}
+use Rattle.lethe_flush.proofs.Following.{file_from, file_in}
 use Rattle.lethe_header.specs.Facts.{lines_of}
 use Rattle.lethe_merge.specs.Merge.{merged}
 use Rattle.lethe_merge.proofs.Merges.{merged_is}

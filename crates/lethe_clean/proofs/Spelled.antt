@@ -42,7 +42,7 @@ use Rattle.lethe_stored.proofs.FileFacts.{as_many, entries_are}
 use Rattle.lethe_stored.proofs.Leveled.{low_level}
 use Rattle.lethe_stored.proofs.Lists.{in_flat}
 use Rattle.lethe_stored.proofs.Meanings.{frozen_are}
-use Rattle.lethe_follows.proofs.Following.{file_in}
+use Rattle.lethe_flush.proofs.Following.{file_in}
 use Rattle.lethe_advance.specs.Settled.{HasOnly}
 use Rattle.lethe_advance.specs.Untorn.{IsPlain, IsUntorn}
 use Rattle.lethe_clean.specs.Copied.{IsCopied, IsOriginal, IsTimely}

@@ -32,7 +32,7 @@ use Rattle.lethe_stored.specs.Files.{IsFile, StoredFile, file_of, lines_in}
 use Rattle.lethe_stored.specs.Stored.{IsCoherent, Stored, layout_of}
 use Rattle.lethe_stored.proofs.FileFacts.{as_many, entries_are}
 use Rattle.lethe_stored.proofs.Leveled.{low_level}
-use Rattle.lethe_sweep.specs.Sweeping.{IsSweptBy}
+use Rattle.lethe_job.specs.Sweeping.{IsSweptBy}
 use Rattle.lethe_swept.specs.Drafts.{IsDraftOf, IsLineFor, IsTileFor}
 use Rattle.lethe_swept.specs.Left.{fresh_in, fresh_of, parts_in}
 use Rattle.lethe_swept.specs.declared.draft.DraftLine.{DraftLine}
@@ -42,8 +42,8 @@ use Rattle.lethe_swept.specs.declared.part.Part.{Part}
 use Rattle.lethe_swept.specs.declared.part.Part.TheVariants.{Kept, Fresh}
 use Rattle.lethe_swept.specs.declared.part.SweptFile.{SweptFile}
 use Rattle.lethe_swept.specs.declared.part.SweptTile.{SweptTile}
-use Rattle.lethe_sweep_task.specs.Drafted.{new_pages}
-use Rattle.lethe_sweep_task.specs.Outcome.{IsDraftLeft, PlainSweep}
+use Rattle.lethe_job.specs.Drafted.{new_pages}
+use Rattle.lethe_job.specs.Outcome.{IsDraftLeft, PlainSweep}
 use Rattle.lethe_tile.specs.Woven.{joined}
 use Rattle.lethe_core.proofs.Installing.{sound_inputs, swept_in}
 use Rattle.lethe_core.proofs.Merged.{inputs_same}

@@ -26,8 +26,8 @@ use Rattle.lethe_stored.specs.Files.{IsFile, Parts, StoredFile, file_of}
 use Rattle.lethe_stored.specs.Kept.{IsFor}
 use Rattle.lethe_stored.specs.Levels.{AreRising}
 use Rattle.lethe_stored.specs.Stored.{IsCoherent, Stored, count_of}
-use Rattle.lethe_sweep_task.specs.Outcome.{PlainSweep}
-use Rattle.lethe_sweeps.specs.Swept.{StoredSweep}
+use Rattle.lethe_job.specs.Outcome.{PlainSweep}
+use Rattle.lethe_job.specs.Swept.{StoredSweep}
 use Rattle.lethe_advance.specs.Settled.{AreDrawn, AreUncited, names_in}
 use Rattle.lethe_advance.specs.Steps.{IsStep}
 use Rattle.lethe_state.specs.Remembered.{IsCurrent, Remembers}

@@ -37,3 +37,5 @@ pub mod Roomed
 pub mod Chosen
 pub mod SweptPuts
 pub mod Copying
+pub use Rattle.lethe_clean.proofs.Copied
+pub use Rattle.lethe_clean.proofs.Stays

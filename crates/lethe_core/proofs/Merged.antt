@@ -41,8 +41,8 @@ use Rattle.lethe_install.specs.declared.steps.Installation.{Installation}
 use Rattle.lethe_install.proofs.Remembering.{install_remembered}
 use Rattle.lethe_job.specs.Tasks.{IsMergeTask, PlainMerge, merge_inputs}
 use Rattle.lethe_job.specs.Works.{Merges, PlainTask, Sweeps}
-use Rattle.lethe_sweeps.proofs.SweptFor.{swept_for}
-use Rattle.lethe_sweeps.proofs.SweptRising.{swept_rises}
+use Rattle.lethe_job.proofs.SweptFor.{swept_for}
+use Rattle.lethe_job.proofs.SweptRising.{swept_rises}
 use Rattle.lethe_core.specs.Keeps.{Keeps, MayStep}
 use Rattle.lethe_core.specs.Merges.{MayMerge}
 use Rattle.lethe_core.specs.Pinned.{AreKept, AreNamed, pages_in}

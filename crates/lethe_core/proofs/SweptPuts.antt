@@ -19,8 +19,8 @@ use Rattle.lethe_cover.proofs.Lists.{all_from, flat_from, flat_in, in_rest, map_
 use Rattle.lethe_header.specs.Headers.{is_puts}
 use Rattle.lethe_header.specs.declared.header.TileLine.{TileLine}
 use Rattle.lethe_stored.proofs.Leveled.{from_filter}
-use Rattle.lethe_sweep.specs.Fences.{is_met, meets}
-use Rattle.lethe_sweep.specs.Sweeping.{AreTombs, IsSweptBy, IsSweptTile, entries_of, left_in, left_of}
+use Rattle.lethe_job.specs.Fences.{is_met, meets}
+use Rattle.lethe_job.specs.Sweeping.{AreTombs, IsSweptBy, IsSweptTile, entries_of, left_in, left_of}
 use Rattle.lethe_swept.specs.Left.{Placed, bounded, by_tile, entries_at, fresh, fresh_in, fresh_of, has_parts, parts_in}
 use Rattle.lethe_swept.specs.declared.part.Part.{Part}
 use Rattle.lethe_swept.specs.declared.part.Part.TheVariants.{Kept, Fresh}

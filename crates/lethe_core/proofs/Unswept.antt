@@ -25,8 +25,8 @@ use Rattle.lethe_job.specs.Works.{Merges, PlainTask, Sweeps}
 use Rattle.lethe_moves.specs.Files.{IsBounded, IsLower}
 use Rattle.lethe_stored.specs.Files.{StoredFile, IsFile, cited_of, file_of}
 use Rattle.lethe_stored.specs.Stored.{Stored, IsCoherent, layout_of, pending_of}
-use Rattle.lethe_sweeps.specs.Swept.{IsSweepIn, IsSwept, StoredSweep}
-use Rattle.lethe_sweeps.proofs.SweptErases.{left_is, pending_all, with_all}
+use Rattle.lethe_job.specs.Swept.{IsSweepIn, IsSwept, StoredSweep}
+use Rattle.lethe_job.proofs.SweptErases.{left_is, pending_all, with_all}
 use Rattle.lethe_core.specs.Descent.{steps_down, unswept_pairs}
 use Rattle.lethe_core.proofs.Counted.{all_counted, counted, entries_by}
 use Rattle.lethe_core.proofs.Fewer.{count_kept, fewer_above, no_longer}

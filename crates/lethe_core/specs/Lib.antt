@@ -11,3 +11,7 @@ pub mod Steps
 pub mod Jobs
 pub mod Keeps
 pub mod Descent
+pub use Rattle.lethe_clean.specs.Copied
+pub use Rattle.lethe_snapshot.specs.Points
+pub use Rattle.lethe_snapshot.specs.Times
+pub use Rattle.lethe_snapshot.specs.declared.snapshot.Snapshot

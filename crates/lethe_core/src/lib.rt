@@ -18,3 +18,4 @@ pub use laws::{
     any_job_goes_on, erases_are_counted, job_goes_on, jobs_are_bounded, jobs_are_few,
     room_is_bounded,
 };
+pub use lethe_snapshot::Snapshot;

@@ -15,5 +15,6 @@ pub use driving::drive;
 pub use event::{Event, Reply};
 pub use jobs::{Jobs, Numbered};
 pub use laws::{a_job_has_its_outcome, puts_are_read};
+pub use lethe_engine::{Engine, Stat};
 pub use lethe_time::Time;
 pub use past::Past;

@@ -13,7 +13,7 @@ use Rattle.lethe_base.specs.declared.refused.Refused.{Refused}
 use Rattle.lethe_disk.specs.declared.disk.Disk.{Ghosts}
 use Rattle.lethe_stored.specs.Stored.{Stored}
 use Rattle.lethe_advance.specs.Settled.{AreDrawn, names_in}
-use Rattle.lethe_flush.proofs.Zips.{zip_cut, zip_joined}
+use Rattle.lethe_job.proofs.Zips.{zip_cut, zip_joined}
 use Rattle.lethe_core.specs.Merges.{AreFirst, IsInstalled}
 use Rattle.lethe_job.specs.Jobs.{next_bytes}
 use Rattle.lethe_job.specs.MadeOf.{numbers_in, pages_of, written_of}

@@ -12,7 +12,7 @@ use Rattle.lethe_bound.specs.Limits.{IsLimit}
 use Rattle.lethe_bound.proofs.Bounds.{limit_above}
 use Rattle.lethe_disk.specs.Disk.{IsIdle, Seen}
 use Rattle.lethe_disk.specs.declared.disk.Disk.{Ghosts}
-use Rattle.lethe_snapshot.specs.declared.snapshot.Snapshot.{Snapshot}
+use Rattle.lethe_core.specs.Snapshot.{Snapshot}
 use Rattle.lethe_manifest.specs.declared.manifest.Manifest.{Manifest}
 use Rattle.lethe_stored.specs.Left.{without_failed}
 use Rattle.lethe_stored.specs.Stored.{layout_of}

@@ -12,3 +12,6 @@ pub mod Opening
 pub mod Ticks
 pub mod Gone
 pub mod Certificates
+pub use Rattle.lethe_row.specs.declared.asking.Asked
+pub use Rattle.lethe_row.specs.Along
+pub use Rattle.lethe_row.specs.Rows as ChangeRows

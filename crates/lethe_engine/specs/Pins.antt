@@ -2,7 +2,7 @@
 use Rattle.std.specs.Prelude.{Result, Ok, Err}
 use Rattle.lethe_base.specs.declared.refused.Refused.{Refused}
 use Rattle.lethe_disk.specs.declared.disk.Disk.{Ghosts}
-use Rattle.lethe_snapshot.specs.declared.snapshot.Snapshot.{Snapshot}
+use Rattle.lethe_core.specs.Snapshot.{Snapshot}
 use Rattle.lethe_core.specs.Pins.{with_pin}
 use Rattle.lethe_core.specs.View.{Face}
 

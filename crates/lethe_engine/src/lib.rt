@@ -17,5 +17,6 @@ pub use laws::{
     certificates_stay, certificates_stay_in_row, certified_is_gone, reopened_is_without_certified,
     standing_is_clean,
 };
+pub use lethe_row::{Asked, Row};
 pub use telling::Stat;
 pub use ticking::Ticked;

@@ -8,8 +8,8 @@ ghost use Rattle.lethe_base.specs.declared.config.Fields.{Fields};
 ghost use Rattle.lethe_base.specs.declared.refused.Refused.TheVariants as refused;
 ghost use Rattle.lethe_bound.specs.Limits.{IsLimit};
 ghost use Rattle.lethe_pins.specs.Held.{without};
-ghost use Rattle.lethe_snapshot.specs.Points.{IsOf, IsTaken};
-ghost use Rattle.lethe_snapshot.specs.Times.{IsLimitBy};
+ghost use Rattle.lethe_core.specs.Points.{IsOf, IsTaken};
+ghost use Rattle.lethe_core.specs.Times.{IsLimitBy};
 ghost use Rattle.lethe_state.specs.Remembered.{Remembers};
 ghost use Rattle.lethe_stored.specs.Left.{without_failed};
 ghost use Rattle.lethe_stored.specs.Stored.{Stored, layout_of};
@@ -23,8 +23,8 @@ ghost use Rattle.lethe_engine.specs.StandsFor.{Opened, StandsSince};
 
 use crate::Engine;
 use lethe_base::Refused;
+use lethe_core::Snapshot;
 use lethe_disk::Disk;
-use lethe_snapshot::Snapshot;
 use std::alloc::Global;
 
 impl<D: Disk> Engine<D> {

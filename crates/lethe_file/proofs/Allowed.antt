@@ -3,7 +3,7 @@ use Rattle.std.proofs.Common.{◌≡◌, ℕ, zero, suc, ◌+◌, ◌*◌, ◌%�
 use Rattle.std.proofs.lemmas.Bool.{and_parts, and_from, eqb-true, eq-eqb}
 use Rattle.std.specs.Cmp.{both_ways}
 use Rattle.lethe_base.specs.Keys.{Bytes}
-use Rattle.lethe_tile.specs.Filters.{hash_of, start_of, step_of, IsSet, MayHold}
+use Rattle.lethe_header.specs.Filters.{hash_of, start_of, step_of, IsSet, MayHold}
 use Rattle.lethe_file.specs.Finding.{is_set, allows}
 
 abbrev probe : List ℕ → Bytes → ℕ → ℕ

@@ -12,7 +12,7 @@ use Rattle.lethe_base.specs.declared.name.Name.{Name}
 use Rattle.lethe_header.specs.Facts.{lines_of}
 use Rattle.lethe_header.specs.Headers.{EachFollows, TileFollows}
 use Rattle.lethe_header.specs.declared.header.TileLine.{TileLine}
-use Rattle.lethe_tile.proofs.Orders.{HasLowerKey, all_left, all_right, ascending_from_pairs, pairs_append, pairs_from_ascending}
+use Rattle.lethe_header.proofs.Orders.{HasLowerKey, all_left, all_right, ascending_from_pairs, pairs_append, pairs_from_ascending}
 use Rattle.lethe_file.specs.Agreement.{FileAgrees, entries_in}
 use Rattle.lethe_file.specs.Between.{AreBetween, numbers_between}
 use Rattle.lethe_file.specs.Damage.{IsDamagedAmong, IsDamagedIn, IsVouched, IsVouchedIn}

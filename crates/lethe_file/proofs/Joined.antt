@@ -5,8 +5,8 @@ use Rattle.std.proofs.lemmas.Bool.{true≢false}
 use Rattle.std.proofs.lemmas.List.{get_or_default}
 use Rattle.std.proofs.lemmas.List.Elements.{All-append, All-contains, All-contains_itself, All-filter, All-head, All-nil, All-tail, Contains-append_cases, Contains-append_left, Contains-append_right, Contains-get_or, filter_passes}
 use Rattle.std.proofs.lemmas.List.Sorted.{Contains-permutation, IsPermutation-filter_both}
-use Rattle.lethe_tile.specs.Woven.{joined}
-use Rattle.lethe_tile.proofs.Orders.{Across}
+use Rattle.lethe_header.specs.Woven.{joined}
+use Rattle.lethe_header.proofs.Orders.{Across}
 
 pub all_joined : {X : Type 0} (P : X → Type 0) (parts : List (List X)) → All (All P) parts → All P (joined parts)
 all_joined P [] each = All-nil P

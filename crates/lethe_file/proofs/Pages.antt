@@ -12,7 +12,7 @@ use Rattle.lethe_page.specs.Pages.{page_bytes}
 use Rattle.lethe_page.specs.Pages as pages
 use Rattle.lethe_page.specs.declared.class.Class.{Class}
 use Rattle.lethe_page.proofs.PageLaws.{page_again}
-use Rattle.lethe_tile.specs.Filters.{IsProbe, MayHold, filter_len}
+use Rattle.lethe_header.specs.Filters.{IsProbe, MayHold, filter_len}
 use Rattle.lethe_header.specs.Facts.{lines_of}
 use Rattle.lethe_header.specs.declared.header.PageLine.{PageLine}
 use Rattle.lethe_header.specs.declared.header.TileLine.{TileLine}

@@ -18,8 +18,8 @@ use Rattle.lethe_header.specs.Facts.{lines_of}
 use Rattle.lethe_header.specs.Headers.{EachFollows, TileFollows}
 use Rattle.lethe_header.specs.declared.header.PageLine.{PageLine}
 use Rattle.lethe_header.specs.declared.header.TileLine.{TileLine}
-use Rattle.lethe_tile.specs.Woven.{joined}
-use Rattle.lethe_tile.proofs.Orders.{Across, HasLowerKey, HasOtherKey, ascending_from_pairs, other_from_ascending, pairs_from_ascending, pairs_from_other, pairs_head, pairs_nil, pairs_tail}
+use Rattle.lethe_header.specs.Woven.{joined}
+use Rattle.lethe_header.proofs.Orders.{Across, HasLowerKey, HasOtherKey, ascending_from_pairs, other_from_ascending, pairs_from_ascending, pairs_from_other, pairs_head, pairs_nil, pairs_tail}
 use Rattle.lethe_file.specs.Agreement.{Agrees, FileAgrees, HaveNoCommonKey, IsWithin, TilesHold, check_of, entries_in}
 use Rattle.lethe_file.specs.Between.{AreBetween, is_below, is_in, meets, numbers_between}
 use Rattle.lethe_file.specs.Waiting.{IsWritten, Waiting, in_order, of_waiting, tiles_between, waits_for}

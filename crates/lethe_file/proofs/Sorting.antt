@@ -10,9 +10,9 @@ use Rattle.std.specs.declared.cmp.Ordering.TheVariants.{Less, Equal, Greater}
 use Rattle.lethe_base.specs.Entries.{IsAscending}
 use Rattle.lethe_base.specs.Keys.{key_cmp}
 use Rattle.lethe_base.specs.declared.entry.Entry.{Entry}
-use Rattle.lethe_tile.specs.Woven.{HaveDistinctKeys}
-use Rattle.lethe_tile.proofs.Orders.{HasLowerKey, HasOtherKey, key_ties, key_total, other_from_ascending, other_permuted, pairs_from_ascending, pairs_head, pairs_nil, pairs_tail}
-use Rattle.lethe_tile.proofs.Unique.{one_order}
+use Rattle.lethe_header.specs.Woven.{HaveDistinctKeys}
+use Rattle.lethe_header.proofs.Orders.{HasLowerKey, HasOtherKey, key_ties, key_total, other_from_ascending, other_permuted, pairs_from_ascending, pairs_head, pairs_nil, pairs_tail}
+use Rattle.lethe_header.proofs.Unique.{one_order}
 use Rattle.lethe_file.specs.Waiting.{in_order, put_in}
 
 swapped : (e x : Entry) (xs : List Entry) → IsPermutation (e ∷ x ∷ xs) (x ∷ e ∷ xs)

@@ -10,7 +10,7 @@ use Rattle.std.proofs.lemmas.List.Kept.{AllPairs-cons}
 use Rattle.lethe_base.specs.Entries.{IsAscending}
 use Rattle.lethe_base.specs.Keys.{Bytes, key_cmp}
 use Rattle.lethe_base.specs.declared.entry.Entry.{Entry}
-use Rattle.lethe_tile.proofs.Orders.{Across, pairs_head, pairs_tail, pairs_from_ascending}
+use Rattle.lethe_header.proofs.Orders.{Across, pairs_head, pairs_tail, pairs_from_ascending}
 use Rattle.lethe_header.specs.Facts.{lines_of}
 use Rattle.lethe_header.specs.Headers.{EachFollows, TileFollows}
 use Rattle.lethe_header.specs.declared.header.TileLine.{TileLine}

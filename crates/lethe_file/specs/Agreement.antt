@@ -13,7 +13,7 @@ use Rattle.lethe_page.specs.Pages as pages
 use Rattle.lethe_page.specs.Reading.{page_at}
 use Rattle.lethe_page.specs.declared.class.Class.{Class}
 use Rattle.lethe_page.specs.declared.refused.PageRefused.{PageRefused}
-use Rattle.lethe_tile.specs.Filters.{filter_len, filter_bits, IsSet}
+use Rattle.lethe_header.specs.Filters.{filter_len, filter_bits, IsSet}
 use Rattle.lethe_base.specs.declared.name.Kind.TheVariants.{Page}
 use Rattle.lethe_base.specs.declared.name.Name.{Name}
 use Rattle.lethe_header.specs.Facts.{lines_of}

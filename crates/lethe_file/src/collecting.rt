@@ -5,7 +5,7 @@ ghost use Rattle.lethe_base.specs.declared.entry.Entry.{Entry};
 ghost use Rattle.lethe_base.specs.declared.name.Name.{Name};
 ghost use Rattle.lethe_disk.specs.Reads.{HasReadCause, IsFault};
 ghost use Rattle.lethe_disk.specs.declared.cursor.ReadRefused.TheVariants.{Damaged};
-ghost use Rattle.lethe_tile.specs.Woven.{HaveDistinctKeys};
+ghost use Rattle.lethe_header.specs.Woven.{HaveDistinctKeys};
 ghost use Rattle.lethe_file.specs.Agreement.{entries_in};
 ghost use Rattle.lethe_file.specs.Between.{is_in};
 ghost use Rattle.lethe_file.specs.Damage.{IsDamagedIn, IsVouchedIn};

@@ -17,8 +17,7 @@ ghost use Rattle.lethe_file.specs.Finding.{AreStarts, IsEntryOf, IsTileOf, allow
 use crate::fetching::find_line;
 use lethe_base::{Entry, Key, NoMemory};
 use lethe_disk::{Disk, ReadRefused};
-use lethe_header::{PageLine, TileLine};
-use lethe_tile::Filter;
+use lethe_header::{Filter, PageLine, TileLine};
 use std::alloc::Global;
 use std::cmp::Ordering;
 use std::sync::Arc;

@@ -19,7 +19,7 @@ use Rattle.lethe_base.specs.declared.name.Name.{Name}
 use Rattle.lethe_build.specs.Drafts.{IsDraft, numbers_for}
 use Rattle.lethe_build.specs.declared.draft.Draft.{Draft}
 use Rattle.lethe_build.proofs.Numbering.{draft_numbers}
-use Rattle.lethe_commit.specs.declared.objects.Object.{Object}
+use Rattle.lethe_advance.specs.Object.{Object}
 use Rattle.lethe_cover.proofs.Common.{⊎_elim, cases_lt, Contains-append_left, Contains-append_right, none_in}
 use Rattle.lethe_cover.proofs.Lists.{Pairs, all_from, in_map, map_from, only_in, pairs_append, pairs_parts, pairs_to, pairs_unmap}
 use Rattle.lethe_file.specs.Agreement.{page_name}

@@ -9,3 +9,4 @@ pub mod Adding
 pub mod Weaving
 pub mod Finishing
 pub mod Leasts
+pub use Rattle.lethe_follows.proofs.Following

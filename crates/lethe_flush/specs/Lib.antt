@@ -3,3 +3,4 @@ pub mod Made
 pub mod Flushed
 pub mod Added
 pub mod ByPlace
+pub use Rattle.lethe_follows.specs.Merged

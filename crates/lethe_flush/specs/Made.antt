@@ -4,7 +4,7 @@ use Rattle.std.specs.List.{AllZip}
 use Rattle.lethe_base.specs.declared.name.Name.{Name}
 use Rattle.lethe_build.specs.Drafts.{with_numbers}
 use Rattle.lethe_build.specs.declared.draft.Draft.{Draft}
-use Rattle.lethe_commit.specs.declared.objects.Object.{Object}
+use Rattle.lethe_advance.specs.Object.{Object}
 use Rattle.lethe_file.specs.Agreement.{page_name}
 use Rattle.lethe_header.specs.Headers as headers
 use Rattle.lethe_header.specs.declared.header.Header.{Header}

@@ -6,15 +6,15 @@ ghost use Rattle.lethe_build.specs.Drafts.{header_of};
 ghost use Rattle.lethe_header.specs.Facts.{least_key, greatest_key};
 ghost use Rattle.lethe_fade.specs.Spans.{overlaps};
 ghost use Rattle.lethe_moves.specs.Flushes.{first_key, last_key, span_of};
-ghost use Rattle.lethe_version.specs.Versions.{files_of};
+ghost use Rattle.lethe_advance.specs.Versions.{files_of};
 ghost use Rattle.lethe_flush.specs.Clear.{IsClearOf, range_of};
 
+use lethe_advance::{Shared, Version};
 use lethe_base::Key;
 use lethe_build::Draft;
 use lethe_disk::Disk;
 use lethe_header::{Header, TileLine};
 use lethe_mem::{Buffer, VecBuffer};
-use lethe_version::{Shared, Version};
 use std::cmp::Ordering;
 
 /// Whether no file of the version, and none of these drafts', has a key between the buffer's first and its last. False for an empty buffer.

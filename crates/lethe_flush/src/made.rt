@@ -7,10 +7,9 @@ ghost use Rattle.lethe_stored.specs.Files.{file_name};
 ghost use Rattle.lethe_flush.specs.Added.{IsAdded, file_by, numbered, pages_by};
 ghost use Rattle.lethe_flush.specs.Made.{named_of};
 
-use lethe_advance::NewHeader;
+use lethe_advance::{NewHeader, Object};
 use lethe_base::{Kind, List, Name, NoMemory};
 use lethe_build::{Built, Draft};
-use lethe_commit::Object;
 use lethe_manifest::Cited;
 use std::alloc::Global;
 

@@ -20,8 +20,8 @@ use Rattle.lethe_cover.proofs.ByKey.{entry_in, no_entry, own_entry}
 use Rattle.lethe_cover.proofs.Common.{⊎_elim, ⊎_map, first_is, first_or_rest}
 use Rattle.lethe_cover.proofs.Lists.{flat_from, flat_in, in_map, map_from}
 use Rattle.lethe_cover.proofs.Reading.{reads}
-use Rattle.lethe_file.specs.Agreement.{entries_in}
-use Rattle.lethe_file.specs.Finding.{IsEntryOf, Lacks}
+use Rattle.lethe_version.specs.Agreement.{entries_in}
+use Rattle.lethe_version.specs.Finding.{IsEntryOf, Lacks}
 use Rattle.lethe_header.specs.Facts.{lines_of}
 use Rattle.lethe_moves.specs.Scans.{AreShownBetween}
 use Rattle.lethe_moves.proofs.Once.{once_in_runs}

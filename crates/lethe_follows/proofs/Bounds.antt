@@ -10,7 +10,7 @@ use Rattle.lethe_base.specs.Spent.{done_upto, is_above, least, put_place}
 use Rattle.lethe_base.proofs.LeftErases.{bounded, not_above}
 use Rattle.lethe_cover.proofs.Lists.{all_from, in_map, map_from}
 use Rattle.lethe_manifest.specs.declared.manifest.Cited.{Cited}
-use Rattle.lethe_merge.proofs.Times.{earlier-assoc}
+use Rattle.lethe_moves.proofs.Times.{earlier-assoc}
 use Rattle.lethe_stored.specs.Files.{cited_of, file_of}
 use Rattle.lethe_stored.specs.Stored.{IsCoherent, Stored, layout_of, plain, records_in}
 use Rattle.lethe_stored.proofs.Leveled.{low_level}

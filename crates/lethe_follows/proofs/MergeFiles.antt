@@ -9,7 +9,7 @@ use Rattle.lethe_base.specs.declared.name.Name.{Name}
 use Rattle.lethe_base.specs.declared.pending.Pending.{Pending}
 use Rattle.lethe_cover.proofs.Common.{⊎_elim, none_in, first_is, first_or_rest}
 use Rattle.lethe_cover.proofs.Lists.{Pairs, in_rest, in_map, flat_from, flat_in, pairs_append, pairs_from, pairs_to}
-use Rattle.lethe_file.specs.Agreement.{page_name}
+use Rattle.lethe_version.specs.Agreement.{page_name}
 use Rattle.lethe_header.specs.declared.header.PageLine.{PageLine}
 use Rattle.lethe_manifest.specs.Manifests.{HasSpelling}
 use Rattle.lethe_stored.specs.Files.{StoredFile, IsFile, lines_in, objects_in}

@@ -23,7 +23,7 @@ use Rattle.lethe_cover.proofs.Grown.{placed_within}
 use Rattle.lethe_cover.proofs.Lists.{all_from, flat_from, map_from, pairs_map, pairs_from, pairs_to}
 use Rattle.lethe_cover.proofs.Reading.{spelled_in}
 use Rattle.lethe_fade.specs.Spans.{overlaps}
-use Rattle.lethe_merge.specs.Merge.{merged}
+use Rattle.lethe_moves.specs.Merge.{merged}
 use Rattle.lethe_moves.specs.Files.{IsClearOf, hull_of_files, keys_of}
 use Rattle.lethe_moves.specs.Made.{AreMade, AreNew}
 use Rattle.lethe_moves.specs.Merges as moves

@@ -12,8 +12,8 @@ use Rattle.lethe_cover.specs.Steps.{frozen}
 use Rattle.lethe_cover.proofs.Frozen.{freeze_covers}
 use Rattle.lethe_manifest.specs.Manifests.{HasSpelling}
 use Rattle.lethe_cover.specs.Merged.{bared}
-use Rattle.lethe_merge.specs.Merge.{merged}
-use Rattle.lethe_merge.proofs.Merges.{left-nil}
+use Rattle.lethe_moves.specs.Merge.{merged}
+use Rattle.lethe_moves.proofs.Merges.{left-nil}
 use Rattle.lethe_moves.specs.Files.{IsTight, IsTiled, IsClearOf, keys_of}
 use Rattle.lethe_moves.specs.Flushes.{Flushes, frozen_entries}
 use Rattle.lethe_moves.specs.Reaches.{Follows}

@@ -14,10 +14,10 @@ use Rattle.lethe_base.proofs.LayoutLaws.{none_in}
 use Rattle.lethe_base.proofs.Newest.{first_is, first_or_rest}
 use Rattle.lethe_cover.proofs.Common.{⊎_elim}
 use Rattle.lethe_cover.proofs.Lists.{Pairs, in_rest, flat_from, all_from, pairs_from, pairs_to, pairs_append}
-use Rattle.lethe_file.specs.Agreement.{Agrees, HaveNoCommonKey, TilesHold, entries_in}
-use Rattle.lethe_file.specs.Agreement as files
-use Rattle.lethe_file.proofs.Orders.{own_key, tiles_rise}
-use Rattle.lethe_file.proofs.Tiles.{zip_parts}
+use Rattle.lethe_version.specs.Agreement.{Agrees, HaveNoCommonKey, TilesHold, entries_in}
+use Rattle.lethe_version.specs.Agreement as files
+use Rattle.lethe_version.proofs.Orders.{own_key, tiles_rise}
+use Rattle.lethe_version.proofs.Tiles.{zip_parts}
 use Rattle.lethe_header.specs.Facts.{lines_of}
 use Rattle.lethe_header.specs.Headers.{IsTile}
 use Rattle.lethe_header.specs.declared.header.PageLine.{PageLine}

@@ -14,7 +14,7 @@ use Rattle.lethe_cover.proofs.Lists.{in_map, in_rest, map_from}
 use Rattle.lethe_cover.proofs.Merging.{IsBy}
 use Rattle.lethe_fade.specs.Expired.{is_passed}
 use Rattle.lethe_fade.specs.LevelTimes.{level_deadline}
-use Rattle.lethe_merge.proofs.Times.{earlier-assoc, earlier-none}
+use Rattle.lethe_moves.proofs.Times.{earlier-assoc, earlier-none}
 use Rattle.lethe_segment.specs.declared.record.Record.{Record}
 use Rattle.lethe_segment.specs.declared.record.Record.TheVariants as of
 use Rattle.lethe_stored.specs.Stored.{Segment, Stored, layout_of, plain, records_in}

@@ -2,7 +2,7 @@
 use Rattle.std.specs.Prelude.{List, map, flat_map, Any, Contains}
 use Rattle.lethe_base.specs.Entries.{IsAscending}
 use Rattle.lethe_base.specs.declared.entry.Entry.{Entry}
-use Rattle.lethe_file.specs.Agreement.{entries_in}
+use Rattle.lethe_version.specs.Agreement.{entries_in}
 use Rattle.lethe_stored.specs.Files.{Parts}
 use Rattle.lethe_stored.specs.Levels.{HasFiles}
 use Rattle.lethe_stored.specs.Replayed.{AreNewestOf}

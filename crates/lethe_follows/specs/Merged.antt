@@ -7,9 +7,9 @@ use Rattle.lethe_base.specs.Spent.{done_upto}
 use Rattle.lethe_base.specs.declared.entry.Entry.{Entry}
 use Rattle.lethe_base.specs.declared.pending.Pending.{Pending}
 use Rattle.lethe_fade.specs.Spans.{KeyRange, overlaps}
-use Rattle.lethe_file.specs.Agreement.{page_name}
+use Rattle.lethe_version.specs.Agreement.{page_name}
 use Rattle.lethe_manifest.specs.declared.manifest.Manifest.{Manifest}
-use Rattle.lethe_merge.specs.Merge.{merged}
+use Rattle.lethe_moves.specs.Merge.{merged}
 use Rattle.lethe_moves.specs.Files.{IsClearOf, keys_of, hull_of_files}
 use Rattle.lethe_stored.specs.Files.{StoredFile, IsFile, lines_in, cited_of, file_of}
 use Rattle.lethe_stored.specs.Stored.{Stored, layout_of, pending_of, count_of, part_names}

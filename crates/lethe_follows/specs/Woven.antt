@@ -5,7 +5,7 @@ use Rattle.lethe_base.specs.declared.config.Fields.{Fields}
 use Rattle.lethe_base.specs.declared.entry.Entry.{Entry}
 use Rattle.lethe_moves.specs.Made.{AreMade}
 use Rattle.lethe_moves.specs.Merges.{IsBelow}
-use Rattle.lethe_tile.specs.Woven.{joined, IsCut, IsWoven}
+use Rattle.lethe_header.specs.Woven.{joined, IsCut, IsWoven}
 
 -- the files, one after another, have the tiles that the entries are woven into, each as many as a file may have, but for the last
 pub record AreCutOf (fields : Fields) (entries : List Entry) (files : List File) : Type 0 where

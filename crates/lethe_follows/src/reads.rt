@@ -11,7 +11,7 @@ ghost use Rattle.lethe_base.specs.Read.{Listed, Scan, answer, is_between};
 ghost use Rattle.lethe_base.specs.declared.entry.Entry.{Entry};
 ghost use Rattle.lethe_follows.specs.Holders.{IsHeldBy, IsPaged, pages_in};
 ghost use Rattle.lethe_mem.specs.Pairs.{pairs_of};
-ghost use Rattle.lethe_merge.specs.Merge.{merged};
+ghost use Rattle.lethe_moves.specs.Merge.{merged};
 ghost use Rattle.lethe_stored.specs.Files.{Parts};
 ghost use Rattle.lethe_stored.specs.Kept.{IsFor};
 ghost use Rattle.lethe_stored.specs.Stored.{IsCoherent, Stored, layout_of, pending_of};

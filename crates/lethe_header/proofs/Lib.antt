@@ -7,3 +7,6 @@ pub mod TileLaws
 pub mod HeaderLaws
 pub mod Sums
 pub mod Props
+pub use Rattle.lethe_tile.proofs.Orders
+pub use Rattle.lethe_tile.proofs.Unique
+pub use Rattle.lethe_tile.proofs.Parts

@@ -14,6 +14,7 @@ mod writing;
 
 pub use header::{Header, PageLine, TileLine};
 pub use laws::one_header;
+pub use lethe_tile::Filter;
 pub use reading::read_header;
 pub use refused::HeaderRefused;
 pub use writing::write_header;

@@ -21,7 +21,7 @@ use Rattle.lethe_state.specs.Writable.{IsWritable}
 use Rattle.lethe_state.specs.declared.state.State.{State}
 use Rattle.lethe_stored.specs.Files.{Parts, StoredFile}
 use Rattle.lethe_stored.specs.Stored.{IsCited, Stored, part_names}
-use Rattle.lethe_sweep.specs.Sweeping.{IsBehind}
+use Rattle.lethe_sweep_task.specs.Sweeping.{IsBehind}
 use Rattle.lethe_sweep_task.specs.Drafted.{new_pages, written_pages}
 use Rattle.lethe_sweep_task.specs.Outcome.{IsDraftLeft, PlainSweep}
 use Rattle.lethe_swept.specs.declared.draft.SweptDraft.{SweptDraft}

@@ -33,7 +33,7 @@ use Rattle.lethe_stored.specs.Files.{StoredFile, IsFile, cited_of, file_name, li
 use Rattle.lethe_stored.specs.Stored.{IsCoherent, Stored, part_names}
 use Rattle.lethe_stored.proofs.Lists.{zip_left}
 use Rattle.lethe_stored.proofs.Parts.{part_below}
-use Rattle.lethe_sweep.specs.Sweeping.{IsBehind, IsSweptBy}
+use Rattle.lethe_sweep_task.specs.Sweeping.{IsBehind, IsSweptBy}
 use Rattle.lethe_sweep_task.specs.Drafted.{new_pages, written_pages}
 use Rattle.lethe_sweep_task.specs.Outcome.{IsDraftLeft}
 use Rattle.lethe_swept.specs.Drafts.{IsDraftOf, new_line, numbered, tiles_with}

@@ -7,7 +7,7 @@ use Rattle.lethe_follows.specs.Merged.{Company, IsMergedWith, Last, StoredMerge,
 use Rattle.lethe_remade.specs.Remade.{remade}
 use Rattle.lethe_stored.specs.Files.{StoredFile, lines_in}
 use Rattle.lethe_stored.specs.Stored.{Stored, part_names, pending_of}
-use Rattle.lethe_sweep.specs.Sweeping.{IsSweptBy}
+use Rattle.lethe_sweep_task.specs.Sweeping.{IsSweptBy}
 use Rattle.lethe_sweep_task.specs.Outcome.{PlainSweep}
 use Rattle.lethe_swept.specs.Drafts.{IsDraftOf}
 use Rattle.lethe_swept.specs.declared.draft.SweptDraft.{SweptDraft}

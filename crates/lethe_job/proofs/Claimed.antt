@@ -6,7 +6,7 @@ use Rattle.std.specs.Option.{option_or, option_map}
 use Rattle.std.proofs.lemmas.Bool.{cases_eq, cond-false, cond-true, eq-eqb, eqb-true, ne_eqb}
 use Rattle.std.proofs.lemmas.List.Elements.{Contains-append_left, Contains-append_right, filter_agree}
 use Rattle.std.proofs.lemmas.List.Kept.{AllPairs-filter}
-use Rattle.lethe_advance.proofs.Lists.{map-filter}
+use Rattle.lethe_sweeps.proofs.Lists.{map-filter}
 use Rattle.lethe_base.specs.Shapes as shapes
 use Rattle.lethe_base.specs.Shapes.{IsValidShape}
 use Rattle.lethe_base.specs.Spent.{done_upto, is_above}

@@ -13,3 +13,8 @@ mod Adding
 mod Pieces
 pub mod Hulls
 pub mod Claimed
+pub use Rattle.lethe_sweeps.proofs.SweptFor
+pub use Rattle.lethe_sweeps.proofs.SweptRising
+pub use Rattle.lethe_sweeps.proofs.SweptErases
+pub use Rattle.lethe_flush.proofs.Newest
+pub use Rattle.lethe_flush.proofs.Zips

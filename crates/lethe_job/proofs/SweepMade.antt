@@ -13,7 +13,7 @@ use Rattle.lethe_header.specs.Facts.{lines_of}
 use Rattle.lethe_header.specs.Headers.{entries_in}
 use Rattle.lethe_header.specs.declared.header.PageLine.{PageLine}
 use Rattle.lethe_stored.specs.Files.{StoredFile, lines_in}
-use Rattle.lethe_sweep.specs.Damage.{IsDamagedFor}
+use Rattle.lethe_sweep_task.specs.Damage.{IsDamagedFor}
 use Rattle.lethe_swept.specs.Drafts.{IsDraft, numbers_for}
 use Rattle.lethe_swept.specs.declared.draft.SweptDraft.{SweptDraft}
 use Rattle.lethe_sweep_task.specs.Drafted.{numbers_of}

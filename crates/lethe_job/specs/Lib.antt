@@ -6,3 +6,8 @@ pub mod Works
 pub mod Claims
 pub mod MadeOf
 pub mod Jobs
+pub use Rattle.lethe_sweep_task.specs.Sweeping
+pub use Rattle.lethe_sweep_task.specs.Fences
+pub use Rattle.lethe_sweep_task.specs.Drafted
+pub use Rattle.lethe_sweep_task.specs.Outcome
+pub use Rattle.lethe_sweeps.specs.Swept

@@ -13,7 +13,7 @@ use Rattle.lethe_follows.specs.Merged.{StoredMerge, entries_in}
 use Rattle.lethe_merge.specs.Merge.{merged}
 use Rattle.lethe_stored.specs.Files.{StoredFile}
 use Rattle.lethe_stored.specs.Stored.{Stored, layout_of}
-use Rattle.lethe_sweep.specs.Fences.{fetches_of}
+use Rattle.lethe_sweep_task.specs.Fences.{fetches_of}
 use Rattle.lethe_swept.specs.Drafts as sweeps
 use Rattle.lethe_swept.specs.declared.draft.SweptDraft.{SweptDraft}
 use Rattle.lethe_sweeps.specs.Swept.{StoredSweep}

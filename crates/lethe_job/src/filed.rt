@@ -5,7 +5,7 @@ ghost use Rattle.lethe_header.specs.Facts.{least_key, greatest_key};
 ghost use Rattle.lethe_stored.specs.Levels.{HasFiles};
 ghost use Rattle.lethe_stored.specs.Stored.{Stored, IsCoherent};
 ghost use Rattle.lethe_version.specs.Versions.{levels_of};
-ghost use Rattle.lethe_advance.specs.Shown.{parts_by_level};
+ghost use Rattle.lethe_sweeps.specs.Shown.{parts_by_level};
 ghost use Rattle.lethe_job.specs.Tasks.{IsCitedAs, plain_file};
 
 use lethe_base::{Key, NoMemory};

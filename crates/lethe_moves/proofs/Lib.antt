@@ -13,3 +13,5 @@ pub mod Once
 pub mod Scanning
 pub mod Fresh
 pub mod EachRun
+pub use Rattle.lethe_merge.proofs.Times
+pub use Rattle.lethe_merge.proofs.Merges

@@ -7,3 +7,4 @@ pub mod Sweeps
 pub mod Due
 pub mod Scans
 pub mod Reaches
+pub use Rattle.lethe_merge.specs.Merge

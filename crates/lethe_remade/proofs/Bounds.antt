@@ -10,7 +10,7 @@ use Rattle.lethe_cover.proofs.Lists.{Pairs, in_rest, pairs_from}
 use Rattle.lethe_fade.proofs.MeetingLaws.{key_upto}
 use Rattle.lethe_fade.specs.Spans.{KeyRange}
 use Rattle.lethe_file.proofs.Orders.{tiles_rise}
-use Rattle.lethe_follows.specs.Merged.{range_of}
+use Rattle.lethe_sweeps.specs.Merged.{range_of}
 use Rattle.lethe_header.proofs.Lines.{are_tiles}
 use Rattle.lethe_header.specs.Facts.{greatest_key, least_key}
 use Rattle.lethe_header.specs.Headers.{HasSpelling, IsTile}

@@ -12,8 +12,8 @@ use Rattle.lethe_base.specs.declared.pending.Pending.{Pending}
 use Rattle.lethe_build.specs.Drafts.{header_of}
 use Rattle.lethe_cover.proofs.Lists.{Pairs, all_from, flat_in, pairs_from, pairs_parts, pairs_to}
 use Rattle.lethe_file.specs.Agreement.{FileAgrees, entries_in, page_name}
-use Rattle.lethe_follows.specs.Merged as follows
-use Rattle.lethe_follows.specs.Merged.{range_of}
+use Rattle.lethe_sweeps.specs.Merged as follows
+use Rattle.lethe_sweeps.specs.Merged.{range_of}
 use Rattle.lethe_header.specs.Headers.{HasSpelling}
 use Rattle.lethe_header.specs.declared.header.PageLine.{PageLine}
 use Rattle.lethe_moves.specs.Files.{IsWithin}

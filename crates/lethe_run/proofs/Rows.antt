@@ -14,10 +14,10 @@ use Rattle.lethe_disk.specs.declared.disk.Disk.{Ghosts}
 use Rattle.lethe_snapshot.specs.declared.snapshot.Snapshot.{Snapshot}
 use Rattle.lethe_core.specs.Asked.{Failure, done_by, stopped_by}
 use Rattle.lethe_core.specs.View.{View}
-use Rattle.lethe_row.specs.Along.{IsEnded, row_behind, tried}
-use Rattle.lethe_row.specs.Rows as rows
-use Rattle.lethe_row.specs.declared.asking.Asked.{Asked}
-use Rattle.lethe_row.specs.declared.asking.Asked.TheVariants as asked
+use Rattle.lethe_engine.specs.Along.{IsEnded, row_behind, tried}
+use Rattle.lethe_engine.specs.ChangeRows as rows
+use Rattle.lethe_engine.specs.Asked.{Asked}
+use Rattle.lethe_engine.specs.Asked.TheVariants as asked
 use Rattle.lethe_engine.specs.Rows.{AnswersRow}
 use Rattle.lethe_script.specs.declared.order.Act.{Act}
 use Rattle.lethe_script.specs.declared.order.Order.{Order}

@@ -4,8 +4,8 @@ use Rattle.lethe_base.specs.History.{History}
 use Rattle.lethe_disk.specs.declared.disk.Disk.{Ghosts}
 use Rattle.lethe_snapshot.specs.declared.snapshot.Snapshot.{Snapshot}
 use Rattle.lethe_core.specs.View.{View, face_of}
-use Rattle.lethe_row.specs.declared.asking.Asked.{Asked}
-use Rattle.lethe_row.specs.declared.asking.Asked.TheVariants as asked
+use Rattle.lethe_engine.specs.Asked.{Asked}
+use Rattle.lethe_engine.specs.Asked.TheVariants as asked
 use Rattle.lethe_script.specs.declared.order.Act.{Act}
 use Rattle.lethe_script.specs.declared.order.Act.TheVariants.{Put, Delete, Erase}
 use Rattle.lethe_script.specs.declared.order.Order.{Order}

@@ -20,8 +20,8 @@ use Rattle.lethe_cover.proofs.Merging.{IsBy}
 use Rattle.lethe_disk.specs.declared.disk.Disk.{Ghosts}
 use Rattle.lethe_file.specs.Agreement.{Agrees, entries_in}
 use Rattle.lethe_file.specs.declared.view.FileView.{FileView}
-use Rattle.lethe_follows.specs.Young.{oldest_in, time_of}
-use Rattle.lethe_follows.proofs.Following.{file_from, file_in}
+use Rattle.lethe_state.specs.Young.{oldest_in, time_of}
+use Rattle.lethe_state.proofs.Following.{file_from, file_in}
 use Rattle.lethe_header.specs.Facts.{lines_of}
 use Rattle.lethe_header.specs.declared.header.PageLine.{PageLine}
 use Rattle.lethe_header.specs.declared.header.TileLine.{TileLine}

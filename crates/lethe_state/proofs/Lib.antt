@@ -9,3 +9,5 @@ pub mod TickStep
 pub mod Left
 pub mod Pending
 pub mod Calls
+pub use Rattle.lethe_follows.proofs.Answering
+pub use Rattle.lethe_follows.proofs.Following

@@ -7,3 +7,5 @@ pub mod Made
 pub mod Left
 pub mod Ticking
 pub mod Waiting
+pub use Rattle.lethe_follows.specs.Holders
+pub use Rattle.lethe_follows.specs.Young

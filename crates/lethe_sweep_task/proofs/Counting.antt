@@ -12,7 +12,7 @@ use Rattle.lethe_header.specs.declared.header.Header.{Header}
 use Rattle.lethe_header.specs.declared.header.PageLine.{PageLine}
 use Rattle.lethe_header.specs.declared.header.TileLine.{TileLine}
 use Rattle.lethe_header.proofs.Lines.{have_few_entries}
-use Rattle.lethe_build.specs.Built.{most_numbers, spelled}
+use Rattle.lethe_swept.specs.Built.{most_numbers, spelled}
 use Rattle.lethe_swept.specs.Drafts.{IsDraftOf, numbers_for}
 use Rattle.lethe_swept.specs.Fits.{End, Fits, FitsTile, Gone, Left, StandFor, StandsFor, len_of, puts_pages}
 use Rattle.lethe_swept.specs.Left.{Placed, by_tile, fresh, fresh_in, fresh_of, placed, tiles_left}

@@ -13,10 +13,9 @@ use Rattle.lethe_header.specs.Facts.{lines_of}
 use Rattle.lethe_header.specs.Headers.{HasSpelling, entries_in}
 use Rattle.lethe_header.specs.declared.header.Header.{Header}
 use Rattle.lethe_header.specs.declared.header.TileLine.{TileLine}
-use Rattle.lethe_build.specs.Built.{most_numbers}
-use Rattle.lethe_build.specs.Drafts.{header_of}
+use Rattle.lethe_swept.specs.Built.{most_numbers}
 use Rattle.lethe_sweep.specs.Sweeping.{IsSweptBy}
-use Rattle.lethe_swept.specs.Drafts.{IsDraft, IsDraftOf, numbers_for}
+use Rattle.lethe_swept.specs.Drafts.{IsDraft, IsDraftOf, header_of, numbers_for}
 use Rattle.lethe_swept.specs.Fits.{Fits}
 use Rattle.lethe_swept.specs.declared.draft.SweptDraft.{SweptDraft}
 use Rattle.lethe_swept.specs.declared.part.SweptFile.{SweptFile}

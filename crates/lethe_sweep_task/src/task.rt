@@ -2,7 +2,7 @@
 ghost use Rattle.std.specs.Prelude.{◌≡◌, ◌≤◌, ◌<◌, ◌+◌, ◌^◌, None, map, IfOk, IfSome, OnOk, IsErrOf};
 ghost use Rattle.lethe_base.specs.Limits.{max_time};
 ghost use Rattle.lethe_base.specs.declared.name.Name.{Name};
-ghost use Rattle.lethe_build.specs.Built.{most_numbers};
+ghost use Rattle.lethe_swept.specs.Built.{most_numbers};
 ghost use Rattle.lethe_disk.specs.Reads.{HasReadCause, IsFault};
 ghost use Rattle.lethe_disk.specs.declared.cursor.ReadRefused.TheVariants.{Damaged};
 ghost use Rattle.lethe_file.specs.Agreement.{FileAgrees, entries_in};

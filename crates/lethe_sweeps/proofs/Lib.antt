@@ -6,3 +6,4 @@ pub mod SweptFor
 pub mod SweptStepping
 pub mod SweepStaying
 pub mod FirstLeft
+pub use Rattle.lethe_advance.proofs.Lists

@@ -10,7 +10,7 @@ use Rattle.lethe_base.specs.declared.name.Kind.TheVariants as kinds
 use Rattle.lethe_base.specs.declared.name.Kind.TheVariants.{Page}
 use Rattle.lethe_base.specs.declared.name.Name.{Name}
 use Rattle.lethe_base.specs.declared.pending.Pending.{Pending}
-use Rattle.lethe_commit.specs.declared.objects.Object.{Object}
+use Rattle.lethe_advance.specs.Object.{Object}
 use Rattle.lethe_cover.proofs.Common.{⊎_elim, none_in, first_is, first_or_rest}
 use Rattle.lethe_cover.proofs.Lists.{Pairs, all_from, flat_from, flat_in, in_map, map_from, pairs_from, pairs_parts}
 use Rattle.lethe_file.specs.Agreement.{page_name}
@@ -21,7 +21,7 @@ use Rattle.lethe_stored.specs.Files.{StoredFile, IsFile, file_name, lines_in, ob
 use Rattle.lethe_stored.specs.Stored.{Stored, IsCited, IsCoherent, part_names, segment_name, segment_numbers, segments_of}
 use Rattle.lethe_stored.proofs.FileFacts.{as_many}
 use Rattle.lethe_stored.proofs.Parts.{object_apart, object_part}
-use Rattle.lethe_version.specs.Order.{is_kept}
+use Rattle.lethe_advance.specs.Order.{is_kept}
 use Rattle.lethe_advance.specs.Settled.{AreUncited, names_in}
 use Rattle.lethe_advance.specs.Steps.{IsObjectFrom, IsSegmentFrom, IsSettledBy, IsStep, IsUncited, WasThere, kept_files, written_in}
 use Rattle.lethe_advance.specs.declared.new_header.NewHeader.{NewHeader}

@@ -8,7 +8,8 @@ use Rattle.lethe_header.specs.declared.header.PageLine.{PageLine}
 use Rattle.lethe_header.specs.declared.header.TileLine.{TileLine}
 use Rattle.lethe_file.specs.Agreement.{entries_in}
 use Rattle.lethe_build.specs.Built.{spelled}
-use Rattle.lethe_build.specs.Drafts.{header_of, with_number}
+use Rattle.lethe_build.specs.Drafts.{with_number}
+pub use Rattle.lethe_build.specs.Drafts.{header_of}
 use Rattle.lethe_build.specs.Parts.{IsLineOf, IsPage}
 use Rattle.lethe_build.specs.declared.built.Built.{Built}
 use Rattle.lethe_swept.specs.Left.{fresh_in}

@@ -1,8 +1,7 @@
 //! A store of small files, what is asked of it, and what its disk holds.
 
 use lethe_base::{Body, Config, Fields, Key, Kind, Pick, Range, Value};
-use lethe_drive::{Event, Reply, Time, drive};
-use lethe_engine::Engine;
+use lethe_drive::{Engine, Event, Reply, Time, drive};
 use lethe_images::roomy_disk;
 use lethe_manifest::read_manifest;
 use lethe_memdisk::MemDisk;

@@ -5,7 +5,7 @@ ghost use Rattle.lethe_core.specs.View.{view_of};
 
 use lethe_base::{Config, Fields, Key, Pick, Shape, Value};
 use lethe_disk::Disk;
-use lethe_engine::Engine;
+use lethe_drive::Engine;
 use lethe_fade::{Claim, Plan, pick, pick_due};
 use lethe_memdisk::MemDisk;
 use std::alloc::Global;

@@ -5,7 +5,7 @@ ghost use Rattle.lethe_core.specs.View.{view_of};
 
 use crate::common::{empty_disk, key_of, opened, value_of};
 use lethe_disk::Disk;
-use lethe_engine::{Engine, Stat};
+use lethe_drive::{Engine, Stat};
 use std::alloc::Global;
 use std::test::Fail;
 

@@ -19,9 +19,9 @@ use Rattle.lethe_advance.specs.Steps.{HasStayed, IsStep}
 use Rattle.lethe_advance.specs.Untorn.{IsUntorn}
 use Rattle.lethe_advance.specs.declared.new_header.NewHeader.{NewHeader}
 use Rattle.lethe_advance.specs.declared.step.Step.{Step}
-use Rattle.lethe_clean.proofs.Copied.{all_copied}
-use Rattle.lethe_clean.proofs.Stays.{step_untorn}
-use Rattle.lethe_clean.specs.Copied.{IsCopied}
+use Rattle.lethe_core.proofs.Copied.{all_copied}
+use Rattle.lethe_core.proofs.Stays.{step_untorn}
+use Rattle.lethe_core.specs.Copied.{IsCopied}
 use Rattle.lethe_commit.specs.Append.{EndsAt}
 use Rattle.lethe_cover.specs.Steps.{with_done}
 use Rattle.lethe_disk.specs.Disk.{Image}

@@ -8,3 +8,5 @@ pub mod Levels
 pub mod Whole
 pub mod OneNewest
 pub mod Opened
+pub use Rattle.lethe_file.proofs.Orders
+pub use Rattle.lethe_file.proofs.Tiles

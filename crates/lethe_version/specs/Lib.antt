@@ -4,3 +4,6 @@ pub mod Order
 pub mod Probing
 pub mod Search
 pub mod Versions
+pub use Rattle.lethe_file.specs.Agreement
+pub use Rattle.lethe_file.specs.declared.view.FileView
+pub use Rattle.lethe_file.specs.Finding

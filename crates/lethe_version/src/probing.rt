@@ -10,8 +10,7 @@ ghost use Rattle.lethe_version.specs.Probing.{bound};
 use crate::Shared;
 use lethe_base::Key;
 use lethe_disk::Disk;
-use lethe_header::{PageLine, TileLine};
-use lethe_tile::Filter;
+use lethe_header::{Filter, PageLine, TileLine};
 use std::cmp::Ordering;
 
 /// Whether the filter allows the key.

@@ -4,7 +4,7 @@ use Rattle.std.proofs.lemmas.List.Sorted.{ranks_by}
 use Rattle.std.specs.Ordering.{is_lt}
 use Rattle.lethe_base.specs.Keys.{key_cmp}
 use Rattle.lethe_base.specs.declared.entry.Entry.{Entry}
-use Rattle.lethe_tile.proofs.Orders.{key_total, key_ties, other_permuted, sorted_strictly, ascending_from_pairs}
+use Rattle.lethe_header.proofs.Orders.{key_total, key_ties, other_permuted, sorted_strictly, ascending_from_pairs}
 use Rattle.lethe_file.proofs.collecting.sort_by_key.Goals as goal
 
 pub returns-clause-order : goal.returns-clause-order

@@ -6,7 +6,7 @@ use Rattle.lethe_base.specs.Entries.{IsAscending}
 use Rattle.lethe_base.specs.declared.entry.Entry.{Entry}
 use Rattle.lethe_disk.specs.Reads.{HasReadCause}
 use Rattle.lethe_disk.specs.declared.cursor.ReadRefused.{ReadRefused}
-use Rattle.lethe_tile.proofs.Parts.{empty_is}
+use Rattle.lethe_header.proofs.Parts.{empty_is}
 use Rattle.lethe_file.specs.Damage.{IsDamagedIn, IsVouchedIn}
 use Rattle.lethe_disk.specs.Reads.{refused_since}
 use Rattle.lethe_file.specs.Waiting.{of_waiting, waiting, waits_in}

@@ -1,5 +1,5 @@
 use Rattle.std.proofs.Common.{sym, ◌∙◌, arith, refl}
-use Rattle.lethe_version.specs.Versions.{levels_of}
+use Rattle.lethe_advance.specs.Versions.{levels_of}
 use Rattle.lethe_flush.specs.Clear.{IsClearOf}
 use Rattle.lethe_flush.proofs.Clearness.{level_more, level_of_all, all_levels}
 use Rattle.lethe_flush.proofs.clear.are_files_clear.Goals as goal

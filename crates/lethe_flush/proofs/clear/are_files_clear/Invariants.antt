@@ -1,5 +1,5 @@
 use Rattle.std.proofs.Common.{ℕ, ◌<◌, All, slice_index_or}
-use Rattle.lethe_version.specs.Versions.{levels_of}
+use Rattle.lethe_advance.specs.Versions.{levels_of}
 use Rattle.lethe_flush.specs.Clear.{IsClearOf}
 use Rattle.lethe_flush.proofs.clear.are_files_clear.Given as goal
 

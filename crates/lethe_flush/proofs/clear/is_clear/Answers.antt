@@ -5,7 +5,7 @@ use Rattle.lethe_build.specs.declared.draft.Draft.{Draft}
 use Rattle.lethe_header.specs.declared.header.Header.{Header}
 use Rattle.lethe_fade.specs.Spans.{KeyRange}
 use Rattle.lethe_moves.specs.Flushes.{span_of}
-use Rattle.lethe_version.specs.Versions.{files_of}
+use Rattle.lethe_advance.specs.Versions.{files_of}
 use Rattle.lethe_flush.specs.Clear.{IsClearOf}
 use Rattle.lethe_flush.proofs.Clearness.{clear_files, clear_headers, clear_all, unmapped}
 use Rattle.lethe_flush.proofs.clear.is_clear.Goals as goal

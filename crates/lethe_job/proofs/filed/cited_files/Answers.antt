@@ -1,7 +1,7 @@
 use Rattle.std.proofs.Common.{map, refl, ap, ◌∙◌, arith, subst}
 use Rattle.std.specs.List.{AllZip}
 use Rattle.std.proofs.lemmas.List.{take_all}
-use Rattle.lethe_advance.specs.Shown.{parts_by_level, parts_in}
+use Rattle.lethe_sweeps.specs.Shown.{parts_by_level, parts_in}
 use Rattle.lethe_version.specs.Versions.{levels_of}
 use Rattle.lethe_job.specs.Tasks.{IsCitedAs, plain_file}
 use Rattle.lethe_job.proofs.Cited.{cited_as, cited_more}

@@ -2,7 +2,7 @@ use Rattle.std.proofs.Common.{◌≡◌, map, take}
 use Rattle.std.specs.List.{AllZip}
 use Rattle.lethe_stored.specs.Levels.{HasFiles}
 use Rattle.lethe_stored.specs.Stored.{Stored, IsCoherent}
-use Rattle.lethe_advance.specs.Shown.{parts_by_level}
+use Rattle.lethe_sweeps.specs.Shown.{parts_by_level}
 use Rattle.lethe_job.specs.Tasks.{IsCitedAs, plain_file}
 use Rattle.lethe_job.proofs.filed.cited_files.Given as goal
 
