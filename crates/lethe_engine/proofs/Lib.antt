@@ -15,3 +15,4 @@ pub mod Rounds
 pub mod Ticks
 pub mod Certified
 pub mod Crossing
+pub use Rattle.lethe_row.proofs.Along
