@@ -8,7 +8,7 @@ use Rattle.lethe_base.specs.Held.{Holds, Tells}
 use Rattle.lethe_base.specs.History.{Change, History, after, clock_before}
 use Rattle.lethe_base.specs.Layout.{Layout}
 use Rattle.lethe_base.specs.Matching.{IsPut}
-use Rattle.lethe_base.specs.Spent.{IsSpent, left_erases}
+use Rattle.lethe_base.specs.Spent.{IsSpent}
 use Rattle.lethe_base.specs.declared.entry.Entry.{Entry}
 use Rattle.lethe_base.specs.declared.pending.Pending.{Pending}
 use Rattle.lethe_base.proofs.CauseLaws.{cause_is_first}

@@ -32,12 +32,12 @@ use Rattle.lethe_stored.specs.Stored.{Stored}
 use Rattle.lethe_core.specs.Merges.{IsRoomBegun}
 use Rattle.lethe_core.proofs.Retired.{retired_same, retired_then}
 use Rattle.lethe_stored.proofs.Numbers.{goes_from_then, goes_from_weaker}
-use Rattle.lethe_row.specs.Along.{AreAppended, HasGrown, IsAtEnd, IsKeptAlong, calls_of, row_behind, tried, with_all}
+use Rattle.lethe_engine.specs.Along.{AreAppended, HasGrown, IsAtEnd, IsKeptAlong, calls_of, row_behind, tried, with_all}
 use Rattle.lethe_core.proofs.Standing.{stands_moments}
-use Rattle.lethe_row.specs.Rows.{call_of}
-use Rattle.lethe_row.specs.declared.asking.Asked.{Asked}
-use Rattle.lethe_row.specs.declared.asking.Asked.TheVariants.{Put, Delete, Erase}
-use Rattle.lethe_row.proofs.Along.{along_none, none_made, one_longer, with_one_more}
+use Rattle.lethe_engine.specs.ChangeRows.{call_of}
+use Rattle.lethe_engine.specs.Asked.{Asked}
+use Rattle.lethe_engine.specs.Asked.TheVariants.{Put, Delete, Erase}
+use Rattle.lethe_engine.proofs.Along.{along_none, none_made, one_longer, with_one_more}
 use Rattle.lethe_engine.specs.Answers.{Answers, IsBegun, IsStill}
 use Rattle.lethe_engine.specs.Refusals.{HasReasonOfChange}
 use Rattle.lethe_engine.specs.Rows.{AnswersRow}

@@ -16,9 +16,9 @@ use Rattle.lethe_segment.specs.declared.record.Record.{Record}
 use Rattle.lethe_state.specs.Room.{HasRoom}
 use Rattle.lethe_core.specs.Merges.{AreRetiredBehind, IsCleared, IsRoomMadeBy, Outcome, pages_of}
 use Rattle.lethe_core.proofs.Roomed.{sees_room}
-use Rattle.lethe_row.specs.Along.{IsAtEnd, IsRecordOver}
-use Rattle.lethe_row.specs.Rows.{call_of}
-use Rattle.lethe_row.specs.declared.asking.Asked.{Asked}
+use Rattle.lethe_engine.specs.Along.{IsAtEnd, IsRecordOver}
+use Rattle.lethe_engine.specs.ChangeRows.{call_of}
+use Rattle.lethe_engine.specs.Asked.{Asked}
 use Rattle.lethe_engine.specs.Answers.{Answers}
 use Rattle.lethe_engine.specs.Rows.{AnswersRow}
 use Rattle.lethe_changes.specs.Changes.{AreMade, IsMadeAlone, IsRound, IsRowOver, Point, Round, changes_in, point_of}

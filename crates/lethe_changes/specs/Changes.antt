@@ -22,8 +22,8 @@ use Rattle.lethe_core.specs.Merges.{AreRetiredBehind, IsCleared, IsRoomBegun, Ou
 use Rattle.lethe_core.specs.Pinned.{AreKept, AreRetiredFrom}
 use Rattle.lethe_core.specs.Running.{Holds, IsSmall, IsSound}
 use Rattle.lethe_core.specs.View.{View, face_of}
-use Rattle.lethe_row.specs.Along.{AreAppended, IsKeptAlong, IsRecordOver, calls_of, row_behind, tried}
-use Rattle.lethe_row.specs.declared.asking.Asked.{Asked}
+use Rattle.lethe_engine.specs.Along.{AreAppended, IsKeptAlong, IsRecordOver, calls_of, row_behind, tried}
+use Rattle.lethe_engine.specs.Asked.{Asked}
 use Rattle.lethe_engine.specs.Answers.{IsStill}
 use Rattle.lethe_engine.specs.Refusals.{HasReasonAt}
 use Rattle.lethe_engine.specs.StandsFor.{IsKeptFor, Opened, StandsSince}

@@ -10,15 +10,14 @@ ghost use Rattle.lethe_state.specs.Room.{HasRoom};
 ghost use Rattle.lethe_core.specs.Reasons.{HasDamagedPage};
 ghost use Rattle.lethe_core.specs.Running.{Holds, IsSound};
 ghost use Rattle.lethe_core.specs.View.{face_of, view_of};
-ghost use Rattle.lethe_row.specs.Rows.{call_of};
+ghost use Rattle.lethe_engine.specs.ChangeRows.{call_of};
 ghost use Rattle.lethe_engine.specs.Answers.{Answers};
 ghost use Rattle.lethe_engine.specs.Refusals.{HasReasonOfChange};
 ghost use Rattle.lethe_changes.specs.Changes.{AnswersAll, IsMadeAlone, counts_of, point_of};
 
 use lethe_base::Refused;
 use lethe_disk::Disk;
-use lethe_engine::Engine;
-use lethe_row::{Asked, Row};
+use lethe_engine::{Asked, Engine, Row};
 use std::alloc::Global;
 use std::collections::VecDeque;
 

@@ -5,8 +5,8 @@ ghost use Rattle.lethe_base.specs.declared.config.Fields.{Fields};
 ghost use Rattle.lethe_base.specs.declared.refused.Refused.{Refused};
 ghost use Rattle.lethe_cert.specs.declared.certificate.Certificate.{Certificate};
 ghost use Rattle.lethe_core.specs.View.{view_of};
-ghost use Rattle.lethe_row.specs.Along.{row_behind};
-ghost use Rattle.lethe_row.specs.declared.asking.Asked.{Asked};
+ghost use Rattle.lethe_engine.specs.Along.{row_behind};
+ghost use Rattle.lethe_engine.specs.Asked.{Asked};
 ghost use Rattle.lethe_engine.specs.StandsFor.{Opened, StandsFor};
 ghost use Rattle.lethe_changes.specs.Changes.{AnswersAll, PortCounts, failed_of};
 

@@ -14,3 +14,5 @@ pub mod Clean
 pub mod Rounds
 pub mod Ticks
 pub mod Certified
+pub mod Crossing
+pub use Rattle.lethe_row.proofs.Along

@@ -85,26 +85,40 @@ pub record AreNewIn (s : Stored) (last : ℕ) (made : List StoredFile) : Type 0 
 abbrev pub erases_kept : Stored → List StoredFile → List Pending
 erases_kept s files = kept_of (pending_of s) (done_upto (layout_of (record s { files = files }))) (first_erase s)
 
--- the next manifest, of this number, which cites these files and has the erases that are kept beside them
-abbrev pub merging_manifest : Stored → List StoredFile → ℕ → Manifest
-merging_manifest s files number = record s.manifest {
+-- whether another job is in flight when one is installed: it is the last, or there is one beside it
+pub data Company : Type 0 where
+  Last : Company
+  Beside : Company
+
+-- The erases that the manifest has then. None leaves beside another job, which may have begun with it.
+abbrev pub erases_with : Company → Stored → List StoredFile → List Pending
+erases_with Last s files = erases_kept s files
+erases_with Beside s files = pending_of s
+
+-- the next manifest, of this number, which cites these files
+abbrev pub merging_manifest_with : Company → Stored → List StoredFile → ℕ → Manifest
+merging_manifest_with company s files number = record s.manifest {
   no = number;
   count = count_of s;
   next = number + 1;
-  erases = erases_kept s files;
+  erases = erases_with company s files;
   files = map cited_of files;
 }
+
+-- it has the erases that are kept beside these files
+abbrev pub merging_manifest : Stored → List StoredFile → ℕ → Manifest
+merging_manifest = merging_manifest_with Last
 
 -- of some erases, those up to a place
 abbrev pub erases_upto : ℕ → List Pending → List Pending
 erases_upto upto erases = filter (λ erase. nat_le erase.seq upto) erases
 
 -- The inputs went, and files of the next level came in their place: what is left of the inputs' entries where the erases are applied.
-pub record IsMerged (s : Stored) (m : StoredMerge) (applied : List Pending) (alone : Bool) (upto : ℕ) (t : Stored) : Type 0 where
+pub record IsMergedWith (company : Company) (s : Stored) (m : StoredMerge) (applied : List Pending) (alone : Bool) (upto : ℕ) (t : Stored) : Type 0 where
   pub made : List StoredFile
   pub number : ℕ
   pub later : s.manifest.next ≤ number
-  pub manifest : t.manifest ≡ merging_manifest s t.files number
+  pub manifest : t.manifest ≡ merging_manifest_with company s t.files number
   pub frozen : t.frozen ≡ s.frozen
   pub active : t.active ≡ s.active
   pub files : IsPermutation (made ++ others_of s m) t.files
@@ -115,3 +129,7 @@ pub record IsMerged (s : Stored) (m : StoredMerge) (applied : List Pending) (alo
   pub new : AreNewIn s number made
   pub order : AreInOrder made
   pub woven : AreWovenOf s.manifest.config (merged (entries_in (inputs_of m)) applied alone) upto (map file_of made)
+
+-- where no other job is in flight
+abbrev pub IsMerged : Stored → StoredMerge → List Pending → Bool → ℕ → Stored → Type 0
+IsMerged = IsMergedWith Last

@@ -14,3 +14,11 @@ pub mod SweepInstall
 pub mod Outputs
 pub mod Stepped
 pub mod Remembering
+pub mod ClaimsApart
+pub mod Swaps
+pub mod MergeSwaps
+pub mod SweepSwaps
+pub mod OtherStep
+pub mod MergeStays
+pub mod SweepStays
+pub mod TaskStays

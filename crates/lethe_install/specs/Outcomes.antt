@@ -3,7 +3,7 @@ use Rattle.std.specs.Prelude.{◌≡◌, ◌≢◌, ℕ, ◌+◌, ◌<◌, ◌�
 use Rattle.lethe_base.specs.declared.name.Name.{Name}
 use Rattle.lethe_base.specs.declared.pending.Pending.{Pending}
 use Rattle.lethe_file.specs.Agreement.{entries_in, page_name}
-use Rattle.lethe_follows.specs.Merged.{IsMerged, StoredMerge, erases_upto}
+use Rattle.lethe_follows.specs.Merged.{Company, IsMergedWith, Last, StoredMerge, erases_upto}
 use Rattle.lethe_remade.specs.Remade.{remade}
 use Rattle.lethe_stored.specs.Files.{StoredFile, lines_in}
 use Rattle.lethe_stored.specs.Stored.{Stored, part_names, pending_of}
@@ -12,17 +12,17 @@ use Rattle.lethe_sweep_task.specs.Outcome.{PlainSweep}
 use Rattle.lethe_swept.specs.Drafts.{IsDraftOf}
 use Rattle.lethe_swept.specs.declared.draft.SweptDraft.{SweptDraft}
 use Rattle.lethe_swept.specs.declared.part.SweptFile.{SweptFile}
-use Rattle.lethe_sweeps.specs.Swept.{IsSwept, StoredSweep}
+use Rattle.lethe_sweeps.specs.Swept.{IsSweptWith, StoredSweep}
 use Rattle.lethe_job.specs.SweepTasks.{IsSweepTask}
 use Rattle.lethe_job.specs.Tasks.{IsMergeTask, PlainMerge}
 use Rattle.lethe_job.specs.Works.{Merges, PlainTask, Sweeps}
 use Rattle.lethe_install.specs.Left.{is_among, unneeded_of}
 
--- the outputs of a merge of what is stored came in the place of its inputs, and the erases that are done then have left
-pub record IsMergeInstalled (s : Stored) (task : PlainMerge) (t : Stored) : Type 0 where
+-- the outputs of a merge of what is stored came in the place of its inputs, and of the erases those stay that its company asks for
+pub record IsMergeInstalledWith (company : Company) (s : Stored) (task : PlainMerge) (t : Stored) : Type 0 where
   pub m : StoredMerge
   pub tasked : IsMergeTask s m task
-  pub merged_is : IsMerged s m (erases_upto task.upto (pending_of s)) task.alone task.upto t
+  pub merged_is : IsMergedWith company s m (erases_upto task.upto (pending_of s)) task.alone task.upto t
 
 -- The names of the pages of files, in order.
 abbrev pub page_names : List StoredFile → List Name
@@ -59,17 +59,28 @@ pub record IsFileLeft (s : Stored) (file : StoredFile) (erase : Pending) (alone 
   pub is : IsSweptBy alone erase file.header.tiles (map entries_in file.pages) swept
   pub made_of : MatchOption made (swept.tiles ≡ []) (IsRemade s file erase number swept)
 
--- What the erase leaves of a file that is stored came in its place, page by page, and the erases that are done then have left.
-pub record IsSweepInstalled (s : Stored) (task : PlainSweep) (t : Stored) : Type 0 where
+-- What the erase leaves of a file that is stored came in its place, page by page, and of the erases those stay that its company asks for.
+pub record IsSweepInstalledWith (company : Company) (s : Stored) (task : PlainSweep) (t : Stored) : Type 0 where
   pub w : StoredSweep
   pub tasked : IsSweepTask s w task
-  pub swept_is : IsSwept s w task.erase task.alone t
+  pub swept_is : IsSweptWith company s w task.erase task.alone t
   pub file_left : IsFileLeft s w.file task.erase task.alone swept_is.number swept_is.made
 
 -- the outcome of a task is stored in the place of what goes
+abbrev pub IsInstalledWith : Company → Stored → PlainTask → Stored → Type 0
+IsInstalledWith company s (Merges task) t = IsMergeInstalledWith company s task t
+IsInstalledWith company s (Sweeps task) t = IsSweepInstalledWith company s task t
+
+-- where no other job is in flight, so that the erases that are done then have left
+
+abbrev pub IsMergeInstalled : Stored → PlainMerge → Stored → Type 0
+IsMergeInstalled = IsMergeInstalledWith Last
+
+abbrev pub IsSweepInstalled : Stored → PlainSweep → Stored → Type 0
+IsSweepInstalled = IsSweepInstalledWith Last
+
 abbrev pub IsInstalled : Stored → PlainTask → Stored → Type 0
-IsInstalled s (Merges task) t = IsMergeInstalled s task t
-IsInstalled s (Sweeps task) t = IsSweepInstalled s task t
+IsInstalled = IsInstalledWith Last
 
 -- the level of the files that come
 abbrev pub level_made : PlainTask → ℕ

@@ -10,6 +10,6 @@ mod placing;
 mod steps;
 mod sweeping;
 
-pub use laws::install_is_remembered;
+pub use laws::{install_is_remembered, task_stays_beside};
 pub use outcome::installing;
 pub use steps::Installation;

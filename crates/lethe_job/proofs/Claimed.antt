@@ -30,11 +30,11 @@ use Rattle.lethe_stored.proofs.Leveled.{from_level, in_level, low_level, of_leve
 use Rattle.lethe_sweep_task.specs.Outcome.{PlainSweep}
 use Rattle.lethe_job.specs.Chosen.{hull_in, range_in}
 use Rattle.lethe_job.specs.Claims.{IsOfItsKind, claim_of_task}
-use Rattle.lethe_job.specs.Shapes.{due_shape, facts_at, shape_of}
+use Rattle.lethe_job.specs.Shapes.{due_shape, facts_at}
 use Rattle.lethe_job.specs.SweepTasks.{IsPlannedSweep}
 use Rattle.lethe_job.specs.Tasks.{IsPlannedMerge, PlainMerge}
 use Rattle.lethe_job.specs.Works.{IsPlanned, Merges, PlainTask, Sweeps, plan_of}
-use Rattle.lethe_job.proofs.Hulls.{fact, hull_append, hull_is, hull_of_facts, met_are, only_one}
+use Rattle.lethe_job.proofs.Hulls.{fact, hull_append, hull_facts, hull_of_facts, met_are, only_one}
 use Rattle.lethe_job.proofs.Listed.{find_some, find_there, from_any, one_numbered}
 use Rattle.lethe_job.proofs.Planned.{hull_same, range_same}
 use Rattle.lethe_job.proofs.Shaped.{due_shape_same}
@@ -149,7 +149,7 @@ module _ (s : Stored) (coherent : IsCoherent s) (task : PlainMerge) (planned : I
   merge_is : (sources : KeyRange) → sources ≡ keys → merge_claim m.level sources claimed.next ≡ claim_at m.level (hull_in (m.sources ++ m.met))
   merge_is sources same = (λ i. merge_claim m.level (same i) (next_is i))
       ∙ ap (λ met. claim_at m.level (facts.hull keys met)) met_facts
-      ∙ ap (claim_at m.level) (hull_is (m.level + 1) keys m.met ∙ sym (hull_append m.sources m.met some_source))
+      ∙ ap (claim_at m.level) (hull_facts (m.level + 1) keys m.met ∙ sym (hull_append m.sources m.met some_source))
 
   sources_whole : m.level ≡ 0 → facts.hull_of (facts_at s.files m.level) ≡ keys
   sources_whole zeroth = hull_of_facts m.level (at m.level s.files) ∙ ap hull_in (begun.from ∙ (λ i. planned.all zeroth i ++ (m.sources ++ none_older i)) ∙ append-nil m.sources)

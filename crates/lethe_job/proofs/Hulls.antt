@@ -21,12 +21,9 @@ use Rattle.lethe_job.proofs.Split.{does_meet, higher_clear, lower_clear, none_me
 abbrev pub fact : ℕ → StoredFile → FileFacts
 fact level file = facts_of level file.swept file.header
 
-hull_facts : (level : ℕ) (keys : KeyRange) (files : List StoredFile) → facts.hull keys (map (fact level) files) ≡ hull_with keys files
+pub hull_facts : (level : ℕ) (keys : KeyRange) (files : List StoredFile) → facts.hull keys (map (fact level) files) ≡ hull_with keys files
 hull_facts level keys [] = refl
 hull_facts level keys (file ∷ files) = hull_facts level (joined keys (range_in file)) files
-
-pub hull_is : (level : ℕ) (keys : KeyRange) (files : List StoredFile) → facts.hull keys (map (fact level) files) ≡ hull_with keys files
-hull_is = hull_facts
 
 pub hull_of_facts : (level : ℕ) (files : List StoredFile) → facts.hull_of (map (fact level) files) ≡ hull_in files
 hull_of_facts level [] = refl

@@ -3,7 +3,6 @@ ghost use Rattle.std.specs.Prelude.{◌≡◌, ◌⊎◌, ℕ, ◌+◌, ◌-◌,
 ghost use Rattle.std.specs.Option.{option_copied};
 ghost use Rattle.std.specs.Ordering.{is_lt};
 ghost use Rattle.lethe_base.specs.Keys.{Bytes, key_cmp};
-ghost use Rattle.lethe_base.specs.Read.{is_between};
 ghost use Rattle.lethe_base.specs.declared.entry.Body.TheVariants.{Put};
 ghost use Rattle.lethe_base.specs.declared.entry.Entry.{Entry};
 ghost use Rattle.lethe_base.specs.declared.name.Name.{Name};
@@ -15,7 +14,7 @@ ghost use Rattle.lethe_header.specs.Facts.{greatest_key, least_key, lines_of};
 ghost use Rattle.lethe_mem.specs.Pairs.{pairs_of};
 ghost use Rattle.lethe_merge.specs.Merge.{merged};
 ghost use Rattle.lethe_version.specs.Versions.{IsDamagedInAny, IsSound, IsVouchedBy, bytes_of, entries_of, files_of, pages_between};
-ghost use Rattle.lethe_read.specs.Between.{AreListedBetween, AreReadBetween, by_keys, is_behind};
+ghost use Rattle.lethe_read.specs.Between.{AreListedBetween, AreListedFrom, AreReadBetween, by_keys, comes_next, is_last_below};
 ghost use Rattle.lethe_read.specs.Found.{IsBacked, frozen_entries};
 ghost use Rattle.lethe_read.specs.Parts.{Adds, Awaits, joins};
 
@@ -195,14 +194,15 @@ fn pairs_from<D: Disk, C: Cursor<D>>(
     ensures cause { HasReadCause (D.port_faults port.old) (D.port_faults port.new) result }
     ensures can_fail { IsFault result → D.ports_fail }
 {
-    // A cursor on a disk that tells nothing might give entries for ever, so after 2^64 - 1 of them it gives up as one that has no
-    // memory.
+    // A cursor on a disk that tells nothing might give entries for ever, or keys past the range, so after 2^64 - 1 of them, or where the last key is past it, it
+    // gives up as one that has no memory.
     let before = D::port_faults(port);
     let mut pairs = Vec::new(alloc);
     for _turn in 0..u64::MAX {
         match cursor.next(alloc, port) {
-            Ok(Some(entry)) => push_pair(&mut pairs, entry, lo, hi)?,
-            Ok(None) => return Ok(pairs),
+            Ok(Some(entry)) => push_pair(&mut pairs, entry, lo)?,
+            Ok(None) if is_last_below(pairs.last(), hi) => return Ok(pairs),
+            Ok(None) => return Err(ReadRefused::NoMemory),
             Err(why) => return Err(why.since(before)),
         }
     }
@@ -210,22 +210,17 @@ fn pairs_from<D: Disk, C: Cursor<D>>(
 }
 
 /// Adds the pair of an entry that is a put.
-fn push_pair(
-    pairs: &mut Vec<(Key, u64, Value)>,
-    entry: Entry,
-    lo: &Key,
-    hi: &Key,
-) -> Result<(), NoMemory>
-    requires { AreListedBetween lo.now hi.now pairs.old.items }
+fn push_pair(pairs: &mut Vec<(Key, u64, Value)>, entry: Entry, lo: &Key) -> Result<(), NoMemory>
+    requires { AreListedFrom lo.now pairs.old.items }
     ensures pairs { OnOk result (by_keys pairs.new.items ≡ by_keys pairs.old.items ++ pairs_of (entry ∷ [])) }
-    ensures between { AreListedBetween lo.now hi.now pairs.new.items }
+    ensures listed { AreListedFrom lo.now pairs.new.items }
     ensures among { (pair : Bytes × ℕ × Bytes) → Contains pairs.new.items pair
         → Contains pairs.old.items pair ⊎ ((entry.key ≡ pair.0) × (entry.body ≡ Put pair.1 pair.2)) }
 {
     let Entry { key, body, .. } = entry;
     if let Body::Put { dkey, value } = body {
         // The pages of a file on a disk that tells nothing might have any keys, so where one doesn't come next it gives up as one that has no memory.
-        if !is_between(lo, hi, &key) || !is_behind(pairs.last(), &key) {
+        if !comes_next(lo, pairs.last(), &key) {
             return Err(NoMemory);
         }
         pairs.push((key, dkey, value))?;
@@ -233,19 +228,22 @@ fn push_pair(
     Ok(())
 }
 
-/// Whether the key lies from `lo` up to `hi`, which is excluded.
-fn is_between(lo: &Key, hi: &Key, key: &Key) -> bool
-    ensures { result ≡ is_between lo.now hi.now key.now }
-{
-    lo <= key && key < hi
-}
-
-/// Whether the key is greater than the last one's, if there is one.
-fn is_behind(last: Option<&(Key, u64, Value)>, key: &Key) -> bool
-    ensures { result ≡ is_behind (option_copied last.entry) key.now }
+/// Whether the key is greater than the last one's, if there is one, and else not below the least.
+fn comes_next(lo: &Key, last: Option<&(Key, u64, Value)>, key: &Key) -> bool
+    ensures { result ≡ comes_next lo.now (option_copied last.entry) key.now }
 {
     match last {
         Some((last, _, _)) => last < key,
+        None => lo <= key,
+    }
+}
+
+/// Whether the last one's key, if there is one, is below another.
+fn is_last_below(last: Option<&(Key, u64, Value)>, hi: &Key) -> bool
+    ensures { result ≡ is_last_below (option_copied last.entry) hi.now }
+{
+    match last {
+        Some((last, _, _)) => last < hi,
         None => true,
     }
 }

@@ -10,7 +10,7 @@ use Rattle.lethe_header.specs.declared.header.PageLine.{PageLine}
 use Rattle.lethe_moves.specs.Files.{IsClearOf, IsWithin}
 use Rattle.lethe_stored.specs.Files.{StoredFile, IsFile, lines_in, file_of}
 use Rattle.lethe_stored.specs.Stored.{Stored, pending_of, part_names}
-use Rattle.lethe_follows.specs.Merged.{entries_in, merging_manifest, range_of}
+use Rattle.lethe_follows.specs.Merged.{Company, Last, entries_in, merging_manifest_with, range_of}
 
 -- the file, and those that the manifest cites before and behind it
 pub record StoredSweep : Type 0 where
@@ -62,12 +62,16 @@ pub record AreLeft (s : Stored) (file : StoredFile) (erase : Pending) (alone : B
   pub kept : (entry output : Entry) → Contains (entries_of (file_of file)) entry → swept_of alone erase entry ≡ Some output → Contains (entries_in made) output
 
 -- The file went, and what the erase leaves of it came in its place.
-pub record IsSwept (s : Stored) (w : StoredSweep) (erase : Pending) (alone : Bool) (t : Stored) : Type 0 where
+pub record IsSweptWith (company : Company) (s : Stored) (w : StoredSweep) (erase : Pending) (alone : Bool) (t : Stored) : Type 0 where
   pub made : Option StoredFile
   pub number : ℕ
   pub later : s.manifest.next ≤ number
   pub files : t.files ≡ files_then w made
-  pub manifest : t.manifest ≡ merging_manifest s t.files number
+  pub manifest : t.manifest ≡ merging_manifest_with company s t.files number
   pub frozen : t.frozen ≡ s.frozen
   pub active : t.active ≡ s.active
   pub left : AreLeft s w.file erase alone number (cons_option made [])
+
+-- where no other job is in flight
+abbrev pub IsSwept : Stored → StoredSweep → Pending → Bool → Stored → Type 0
+IsSwept = IsSweptWith Last

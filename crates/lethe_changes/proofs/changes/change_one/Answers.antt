@@ -5,7 +5,7 @@ use Rattle.lethe_stored.specs.Stored.{Stored, appended}
 use Rattle.lethe_core.specs.Changes.{erase_over, put_over}
 use Rattle.lethe_core.specs.Running.{Holds}
 use Rattle.lethe_core.specs.View.{View, view_of}
-use Rattle.lethe_row.specs.declared.asking.Asked.TheVariants as asked
+use Rattle.lethe_engine.specs.Asked.TheVariants as asked
 use Rattle.lethe_changes.specs.Changes.{IsMadeAlone, point_of}
 use Rattle.lethe_changes.proofs.Rounds.{alone_of}
 use Rattle.lethe_changes.proofs.changes.change_one.Goals as goal

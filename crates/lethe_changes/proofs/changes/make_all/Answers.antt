@@ -1,6 +1,6 @@
 use Rattle.std.proofs.Common.{rules, ◌≡◌, ◌+◌, [], ◌∷◌, ◌++◌, length, None, Some, refl, sym, ap, ◌∙◌, subst, arith}
 use Rattle.lethe_core.specs.View.{Face, View, face_of, view_of}
-use Rattle.lethe_row.specs.Along.{IsEnded}
+use Rattle.lethe_engine.specs.Along.{IsEnded}
 use Rattle.lethe_changes.specs.Changes.{AnswersAll, counts_of}
 use Rattle.lethe_changes.proofs.Making.{IsFresh, IsMade, all_made, calls_of_all, fresh_at_first, never_fresh, none_yet, one_longer_by, one_made, one_refused, row_ended, row_left, row_made, row_many, row_went, row_went_written, written_all}
 use Rattle.lethe_changes.proofs.Rounds.{no_rounds, round_made}

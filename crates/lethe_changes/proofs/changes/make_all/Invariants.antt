@@ -1,6 +1,6 @@
 use Rattle.std.proofs.Common.{◌≡◌, ◌≤◌, List, length}
 use Rattle.lethe_core.specs.View.{view_of}
-use Rattle.lethe_row.specs.declared.asking.Asked.{Asked}
+use Rattle.lethe_engine.specs.Asked.{Asked}
 use Rattle.lethe_changes.specs.Changes.{HaveRoom}
 use Rattle.lethe_changes.proofs.Making.{IsFresh, IsMade}
 use Rattle.lethe_changes.proofs.Rounds.{AreRounds}
