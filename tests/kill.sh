@@ -1,7 +1,7 @@
 #!/bin/sh
 # Kills the program with signal 9 at a random moment of 200 runs over one folder, or as many as two minutes give, tests/kill.sh [SEED]. Behind each, the store is
 # the map after a front of that run's changes, and after all of them where the run had finished: so nothing is lost that a
-# finished run was answered. Tried with wrong bodies: where the disk's list of names leaves out gates or segments, the first kill
+# finished run was answered. There are erases, and buffers of forty records in files of few entries, so that most runs flush and merge. Tried with wrong bodies: where the disk's list of names leaves out gates or segments, the first kill
 # leaves a store that can't be read.
 # shellcheck source=tests/common.sh
 . "$(dirname -- "$0")/common.sh"
@@ -17,6 +17,7 @@ LETHE, STORE, SEED = sys.argv[1], sys.argv[2], int(sys.argv[3])
 RUNS = 200
 LINES = 400
 SECONDS = 120
+WORDS = ["run", "--page", "4", "--tile", "2", "--file", "8", "--buffer", "40", "--ratio", "2", "--levels", "3"]
 # So many runs at least have to be killed between their first change and their last.
 ENOUGH = 10
 
@@ -28,7 +29,7 @@ def fail(why):
 
 def lethe(text, seconds=None):
     """What the program printed and its status; the status is None where it was killed that many seconds after its start."""
-    program = subprocess.Popen([LETHE, STORE, "run"], stdin=subprocess.PIPE, stdout=subprocess.PIPE)
+    program = subprocess.Popen([LETHE, STORE, *WORDS], stdin=subprocess.PIPE, stdout=subprocess.PIPE)
     try:
         out, _ = program.communicate(text.encode(), timeout=seconds)
         return out.decode(), program.returncode
@@ -39,14 +40,29 @@ def lethe(text, seconds=None):
 
 
 def changes(rng):
-    """A key with its delete key and value, or with None where it is deleted."""
+    """A key with its delete key and value, or with None where it is deleted; or no key, and two delete keys between which all is erased."""
     for at in range(LINES):
         key = f"k{rng.randrange(60):02}"
-        yield (key, None) if rng.randrange(4) == 0 else (key, (rng.randrange(1000), f"v{at}x" + "y" * rng.randrange(200)))
+        what = rng.randrange(16)
+        if what == 0:
+            low = rng.randrange(1000)
+            yield None, (low, low + 1 + rng.randrange(200))
+        else:
+            yield (key, None) if what < 5 else (key, (rng.randrange(1000), f"v{at}x" + "y" * rng.randrange(200)))
 
 
 def spelled(key, pair):
+    if key is None:
+        return f"1 erase {pair[0]} {pair[1]}\n"
     return f"1 del {key}\n" if pair is None else f"1 put {key} {pair[0]} {pair[1]}\n"
+
+
+def changed(state, key, pair):
+    """The map behind one change."""
+    if key is None:
+        return {other: put for other, put in state.items() if not pair[0] <= put[0] < pair[1]}
+    left = {other: put for other, put in state.items() if other != key}
+    return left if pair is None else {**left, key: pair}
 
 
 def read():
@@ -80,9 +96,7 @@ def main():
         if not least <= now <= place + LINES:
             fail(f"run {turn}: {now} changes are there, of {least} to {place + LINES}")
         for key, pair in script[: now - place]:
-            state.pop(key, None)
-            if pair is not None:
-                state[key] = pair
+            state = changed(state, key, pair)
         if got != state:
             fail(f"run {turn}: the store isn't the map after {now} changes")
         killed += status is None

@@ -7,7 +7,7 @@ use crate::opening::header_of;
 use lethe_agreement::{TakenKeys, is_sound};
 use lethe_header::{Header, PageLine, TileLine};
 use std::alloc::Global;
-use std::test::Fail;
+use std::process::Abort;
 
 /// Where the tile's greatest key stands in the file.
 const GREATEST_KEY: usize = 16;
@@ -23,46 +23,42 @@ fn line_at(tile: &TileLine, place: usize) -> &PageLine
 /// Whether the page is sound with the line at the place, in the file's first tile.
 fn is_sound_at(
     alloc: Global,
+    rt: &impl Abort,
     header: &Header,
     place: usize,
     taken: &mut TakenKeys,
     bytes: &[u8],
-) -> Result<bool, Fail>
+) -> bool
     requires { HasSpelling header.now }
 {
     let tile = &header.tiles.items()[0];
-    if place >= tile.pages.items().len() {
-        return Err(Fail::new("no line"));
-    }
-    Ok(is_sound(alloc, tile, line_at(tile, place), taken, bytes)?)
+    assert!(rt; place < tile.pages.items().len());
+    is_sound(alloc, tile, line_at(tile, place), taken, bytes).expect(rt, "memory")
 }
 
 /// The place of a line, the bytes that are tried as its page, and whether they are told to be sound.
 type Row<'a> = (usize, &'a [u8], bool);
 
-/// The place of the first row of which something else is told, where the pages are tried in turn.
-fn first_other(alloc: Global, file: &[u8], rows: &[Row]) -> Result<Option<usize>, Fail> {
-    let header = header_of(alloc, file)?;
+/// Tries the pages in turn. What is told of each has to be as its row says.
+fn check_rows(alloc: Global, rt: &impl Abort, file: &[u8], rows: &[Row]) {
+    let header = header_of(alloc, rt, file);
     let mut taken = TakenKeys::new(alloc);
     for (row, (place, bytes, sound)) in rows.iter().enumerate() {
-        if is_sound_at(alloc, &header, *place, &mut taken, bytes)? != *sound {
-            return Ok(Some(row));
-        }
+        let told = is_sound_at(alloc, rt, &header, *place, &mut taken, bytes);
+        assert_eq!(rt; told, *sound, "row {row}");
     }
-    Ok(None)
 }
 
 #[test]
-fn the_keys_of_sound_pages_are_taken(rt: HostRuntime) -> Result<(), Fail> {
+fn the_keys_of_sound_pages_are_taken(rt: HostRuntime) {
     let rows: [Row; 3] = [(0, PAGE_AC, true), (1, PAGE_BD, true), (0, PAGE_AC, false)];
-    assert_eq!(rt; first_other(rt.alloc(), FILE, &rows)?, None);
-    Ok(())
+    check_rows(rt.alloc(), &rt, FILE, &rows);
 }
 
 #[test]
-fn other_bytes_are_unsound(rt: HostRuntime) -> Result<(), Fail> {
+fn other_bytes_are_unsound(rt: HostRuntime) {
     let alloc = rt.alloc();
-    let changed = changed(alloc, PAGE_AC, 53, b'y')?;
+    let changed = changed(alloc, &rt, PAGE_AC, 53, b'y');
     let rows: [Row; 5] = [
         (0, &changed, false),
         (0, &PAGE_AC[..53], false),
@@ -70,15 +66,13 @@ fn other_bytes_are_unsound(rt: HostRuntime) -> Result<(), Fail> {
         (0, b"", false),
         (0, PAGE_AC, true),
     ];
-    assert_eq!(rt; first_other(alloc, FILE, &rows)?, None);
-    Ok(())
+    check_rows(alloc, &rt, FILE, &rows);
 }
 
 #[test]
-fn a_key_outside_of_the_tile_is_unsound(rt: HostRuntime) -> Result<(), Fail> {
+fn a_key_outside_of_the_tile_is_unsound(rt: HostRuntime) {
     let alloc = rt.alloc();
-    let file = changed(alloc, FILE, GREATEST_KEY, b'c')?;
+    let file = changed(alloc, &rt, FILE, GREATEST_KEY, b'c');
     let rows: [Row; 2] = [(0, PAGE_AC, true), (1, PAGE_BD, false)];
-    assert_eq!(rt; first_other(alloc, &file, &rows)?, None);
-    Ok(())
+    check_rows(alloc, &rt, &file, &rows);
 }

@@ -3,17 +3,18 @@
 use crate::common::{key_of, value_of};
 use lethe_base::{Body, Entry};
 use std::alloc::Global;
-use std::test::Fail;
+use std::process::Abort;
 
-fn put_of(alloc: Global) -> Result<Entry, Fail> {
-    let key = key_of(alloc, "key")?;
-    let value = value_of(alloc, b"value")?;
-    Ok(Entry {
+fn put_of(alloc: Global, rt: &impl Abort) -> Entry {
+    Entry {
         seq: 7,
-        key,
-        body: Body::Put { dkey: 5, value },
+        key: key_of(alloc, rt, "key"),
+        body: Body::Put {
+            dkey: 5,
+            value: value_of(alloc, rt, b"value"),
+        },
         since: Some(3),
-    })
+    }
 }
 
 /// Whether the body is a put of the delete key and the value.
@@ -24,18 +25,22 @@ fn is_put(body: &Body, wanted: u64, bytes: &[u8]) -> bool {
     }
 }
 
+/// Whether the entry has the content of `put_of`.
+fn is_the_put(entry: &Entry) -> bool {
+    entry.seq == 7
+        && entry.since == Some(3)
+        && entry.key.bytes() == b"key".as_slice()
+        && is_put(&entry.body, 5, b"value")
+}
+
 fn is_tombstone(body: &Body) -> bool {
     matches!(body, Body::Tomb)
 }
 
 #[test]
-fn a_copy_has_the_same_content(rt: HostRuntime) -> Result<(), Fail> {
-    let alloc = rt.alloc();
-    let copy = put_of(alloc)?.copy()?;
-    assert_eq!(rt; copy.seq, 7);
-    assert_eq!(rt; copy.since, Some(3));
-    assert_eq!(rt; copy.key.bytes(), b"key".as_slice());
-    assert!(rt; is_put(&copy.body, 5, b"value"));
-    assert!(rt; is_tombstone(&Body::Tomb.copy()?));
-    Ok(())
+fn a_copy_has_the_same_content(rt: HostRuntime) {
+    let put = put_of(rt.alloc(), &rt).copy().expect(&rt, "memory");
+    assert!(rt; is_the_put(&put));
+    let tombstone = Body::Tomb.copy().expect(&rt, "memory");
+    assert!(rt; is_tombstone(&tombstone));
 }

@@ -3,15 +3,15 @@
 use crate::build::config_of;
 use crate::common::{PAGE_AC, PAGE_BD, key_of};
 use crate::opening::{damaged, found_in, header_of, open_file};
-use lethe_base::{Body, Entry};
+use lethe_base::{Body, Entry, Key};
 use lethe_disk::{Cursor, ReadRefused};
-use lethe_file::{FileCursor, FileView};
+use lethe_file::FileCursor;
 use lethe_header::write_header;
 use lethe_memdisk::{MemDisk, MemPort};
 use lethe_page::{read_page, write_page};
 use lethe_tile::{Tile, is_ascending, weave};
 use std::alloc::Global;
-use std::test::Fail;
+use std::process::Abort;
 
 /// The tombstone of `e`.
 const PAGE_E: &[u8] = b"LP\x01\x02\0\0\0\x01\x02\0\0\0\0\0\0\0\x05\x01\0\0\0\0\0\0\02\x01e";
@@ -30,106 +30,110 @@ const FILE: &[u8] =
 /// The pages 1 to 5.
 const PAGES: &[&[u8]] = &[PAGE_AC, PAGE_BD, PAGE_E, PAGE_FG, PAGE_H];
 
-/// The file, some pages of which are torn.
-fn open_torn(alloc: Global, torn: &[u64]) -> Result<(FileView<MemDisk>, MemPort), Fail> {
-    open_file(alloc, FILE, PAGES, torn)
-}
-
 /// What a cursor gives, or why it is refused.
 fn given(
     alloc: Global,
+    rt: &impl Abort,
     cursor: &mut FileCursor<MemDisk>,
     port: &mut MemPort,
-) -> Result<Result<Vec<Entry>, ReadRefused>, Fail> {
+) -> Result<Vec<Entry>, ReadRefused> {
     let mut entries = Vec::new(alloc);
     for _ in 0..10 {
-        match cursor.next(alloc, port) {
-            Ok(Some(entry)) => entries.push(entry)?,
-            Ok(None) => return Ok(Ok(entries)),
-            Err(why) => return Ok(Err(why)),
+        match cursor.next(alloc, port)? {
+            Some(entry) => entries.push(entry).expect(rt, "memory"),
+            None => return Ok(entries),
         }
     }
-    Err(Fail::new("an end"))
+    panic!(rt; "no end")
+}
+
+/// What is given of the file between two keys, or why it is refused.
+fn entries_from(
+    alloc: Global,
+    rt: &impl Abort,
+    torn: &[u64],
+    lo: &Key,
+    hi: Option<&Key>,
+) -> Result<Vec<Entry>, ReadRefused> {
+    let (file, mut port) = open_file(alloc, rt, FILE, PAGES, torn);
+    let mut cursor = file.cursor(alloc, lo, hi).expect(rt, "a cursor");
+    given(alloc, rt, &mut cursor, &mut port)
 }
 
 /// What is given of the file between two keys, or why it is refused.
 fn entries_between(
     alloc: Global,
+    rt: &impl Abort,
     torn: &[u64],
     lo: &str,
     hi: Option<&str>,
-) -> Result<Result<Vec<Entry>, ReadRefused>, Fail> {
-    let lo = key_of(alloc, lo)?;
-    let hi = match hi {
-        Some(hi) => Some(key_of(alloc, hi)?),
-        None => None,
-    };
-    let (file, mut port) = open_torn(alloc, torn)?;
-    let mut cursor = file.cursor(alloc, &lo, hi.as_ref())?;
-    given(alloc, &mut cursor, &mut port)
+) -> Result<Vec<Entry>, ReadRefused> {
+    let lo = key_of(alloc, rt, lo);
+    match hi {
+        Some(hi) => entries_from(alloc, rt, torn, &lo, Some(&key_of(alloc, rt, hi))),
+        None => entries_from(alloc, rt, torn, &lo, None),
+    }
 }
 
 /// The keys, which are all of one letter.
-fn letters(alloc: Global, entries: &[Entry]) -> Result<Vec<u8>, Fail> {
+fn letters(alloc: Global, rt: &impl Abort, entries: &[Entry]) -> Vec<u8> {
     let mut letters = Vec::new(alloc);
     for entry in entries {
-        letters.extend_from_slice(entry.key.bytes())?;
+        letters
+            .extend_from_slice(entry.key.bytes())
+            .expect(rt, "memory");
     }
-    Ok(letters)
+    letters
 }
 
 /// What the header that is read of these bytes is written as.
-fn header_again(alloc: Global, bytes: &[u8]) -> Result<Vec<u8>, Fail> {
-    let header = header_of(alloc, bytes)?;
-    Ok(write_header(alloc, &header)?)
+fn header_again(alloc: Global, rt: &impl Abort, bytes: &[u8]) -> Vec<u8> {
+    let header = header_of(alloc, rt, bytes);
+    write_header(alloc, &header).expect(rt, "memory")
 }
 
 /// What the page that is read of these bytes is written as.
-fn page_again(alloc: Global, bytes: &[u8]) -> Result<Vec<u8>, Fail> {
-    let (class, entries) = read_page(alloc, bytes).map_err(|_| "no page")?;
-    Ok(write_page(alloc, class, &entries)?)
+fn page_again(alloc: Global, rt: &impl Abort, bytes: &[u8]) -> Vec<u8> {
+    let (class, entries) = read_page(alloc, bytes).expect(rt, "a page");
+    write_page(alloc, class, &entries).expect(rt, "memory")
 }
 
 #[test]
-fn a_file_is_written_as_it_was_read(rt: HostRuntime) -> Result<(), Fail> {
+fn a_file_is_written_as_it_was_read(rt: HostRuntime) {
     let alloc = rt.alloc();
-    assert_eq!(rt; header_again(alloc, FILE)?.as_slice(), FILE);
+    assert_eq!(rt; header_again(alloc, &rt, FILE).as_slice(), FILE);
     for page in PAGES {
-        assert_eq!(rt; page_again(alloc, page)?.as_slice(), *page);
+        assert_eq!(rt; page_again(alloc, &rt, page).as_slice(), *page);
     }
-    Ok(())
 }
 
 /// The tiles that all entries of the file are woven into.
-fn woven(alloc: Global) -> Result<Vec<Tile>, Fail> {
-    let entries = entries_between(alloc, &[], "a", None)?.map_err(|_| "no entries")?;
-    if !is_ascending(&entries) {
-        return Err(Fail::new("entries in order"));
-    }
-    Ok(weave(alloc, entries, &config_of(2, 2)?)?)
+fn woven(alloc: Global, rt: &impl Abort) -> Vec<Tile> {
+    let entries = entries_between(alloc, rt, &[], "a", None).expect(rt, "entries");
+    assert!(rt; is_ascending(&entries));
+    weave(alloc, entries, &config_of(rt, 2, 2)).expect(rt, "memory")
 }
 
 /// Adds the least and the greatest key of a tile, and behind `|` the keys of each page.
-fn write_tile(alloc: Global, text: &mut Vec<u8>, tile: &Tile) -> Result<(), Fail> {
-    text.extend_from_slice(tile.lo.bytes())?;
-    text.extend_from_slice(tile.hi.bytes())?;
+fn write_tile(alloc: Global, rt: &impl Abort, text: &mut Vec<u8>, tile: &Tile) {
+    text.extend_from_slice(tile.lo.bytes()).expect(rt, "memory");
+    text.extend_from_slice(tile.hi.bytes()).expect(rt, "memory");
     for page in tile.pages.items() {
-        text.push(b'|')?;
-        text.extend_from_slice(&letters(alloc, page.items())?)?;
+        text.push(b'|').expect(rt, "memory");
+        let keys = letters(alloc, rt, page.items());
+        text.extend_from_slice(&keys).expect(rt, "memory");
     }
-    text.push(b';')?;
-    Ok(())
+    text.push(b';').expect(rt, "memory");
 }
 
 #[test]
-fn what_is_read_in_order_is_woven_into_the_same_pages(rt: HostRuntime) -> Result<(), Fail> {
+fn what_is_read_in_order_is_woven_into_the_same_pages(rt: HostRuntime) {
     let alloc = rt.alloc();
     let mut text = Vec::new(alloc);
-    for tile in &woven(alloc)? {
-        write_tile(alloc, &mut text, tile)?;
+    for tile in &woven(alloc, &rt) {
+        write_tile(alloc, &rt, &mut text, tile);
     }
     assert_eq!(rt; text.as_slice(), b"ad|ac|bd;eh|e|fg|h;".as_slice());
-    Ok(())
 }
 
 /// A key, and the page that has it.
@@ -147,53 +151,67 @@ const HELD: [(&str, u64); 8] = [
 /// What is found of a key in the file, some pages of which are torn.
 fn found(
     alloc: Global,
+    rt: &impl Abort,
     torn: &[u64],
     key: &str,
-) -> Result<Result<Option<Entry>, ReadRefused>, Fail> {
-    found_in(alloc, FILE, PAGES, torn, key)
+) -> Result<Option<Entry>, ReadRefused> {
+    found_in(alloc, rt, FILE, PAGES, torn, key)
 }
 
-#[test]
-fn a_key_is_found_in_the_page_that_has_it(rt: HostRuntime) -> Result<(), Fail> {
-    let alloc = rt.alloc();
-    for (key, page) in HELD {
-        // No other page is fetched: each would be told as damaged.
-        let others = others_than(alloc, page)?;
-        let entry = found(alloc, &others, key)?
-            .ok()
-            .ok_or("an answer")?
-            .ok_or("an entry")?;
-        assert_eq!(rt; entry.key.bytes(), key.as_bytes());
-        assert_eq!(rt; matches!(entry.body, Body::Tomb), page == 3);
-        // This one is.
-        let refused = found(alloc, &[page], key)?.err();
-        assert_eq!(rt; refused, Some(damaged(page)));
-    }
-    Ok(())
+/// Whether the entry has the key, and is a tombstone or not.
+fn is_entry_of(entry: &Entry, key: &str, tombstone: bool) -> bool {
+    entry.key.bytes() == key.as_bytes() && matches!(entry.body, Body::Tomb) == tombstone
 }
 
-fn others_than(alloc: Global, page: u64) -> Result<Vec<u64>, Fail> {
-    let mut others = [1, 2, 3, 4, 5].as_slice().to_vec(alloc)?;
+/// The pages of the file but one.
+fn others_than(alloc: Global, rt: &impl Abort, page: u64) -> Vec<u64> {
+    let mut others = [1, 2, 3, 4, 5]
+        .as_slice()
+        .to_vec(alloc)
+        .expect(rt, "memory");
     others.retain(|no| *no != page);
-    Ok(others)
+    others
+}
+
+/// No other page is fetched: each would be told as damaged.
+fn check_found(alloc: Global, rt: &impl Abort, key: &str, page: u64) {
+    let others = others_than(alloc, rt, page);
+    let found = found(alloc, rt, &others, key).expect(rt, "an answer");
+    let entry = found.expect(rt, "an entry");
+    assert!(rt; is_entry_of(&entry, key, page == 3), "{key}");
+}
+
+/// This page is fetched.
+fn check_refused(alloc: Global, rt: &impl Abort, key: &str, page: u64) {
+    let refused = found(alloc, rt, &[page], key).err();
+    assert_eq!(rt; refused, Some(damaged(page)), "{key}");
+}
+
+/// Nothing is found, where these pages are torn.
+fn check_absent(alloc: Global, rt: &impl Abort, torn: &[u64], key: &str) {
+    let found = found(alloc, rt, torn, key).expect(rt, "an answer");
+    assert!(rt; found.is_none(), "{key}");
 }
 
 #[test]
-fn of_a_key_that_is_absent_no_page_is_fetched(rt: HostRuntime) -> Result<(), Fail> {
-    for key in ["A", "aa", "bb", "da", "ee", "ga", "i"] {
-        let found = found(rt.alloc(), &[1, 2, 3, 4, 5], key)?;
-        assert!(rt; matches!(found, Ok(None)), "{key}");
+fn a_key_is_found_in_the_page_that_has_it(rt: HostRuntime) {
+    for (key, page) in HELD {
+        check_found(rt.alloc(), &rt, key, page);
+        check_refused(rt.alloc(), &rt, key, page);
     }
-    Ok(())
 }
 
 #[test]
-fn a_page_whose_filter_errs_is_fetched_in_vain(rt: HostRuntime) -> Result<(), Fail> {
-    let absent = found(rt.alloc(), &[1, 3, 4, 5], "cgaby")?;
-    assert!(rt; matches!(absent, Ok(None)));
-    let refused = found(rt.alloc(), &[2], "cgaby")?.err();
-    assert_eq!(rt; refused, Some(damaged(2)));
-    Ok(())
+fn of_a_key_that_is_absent_no_page_is_fetched(rt: HostRuntime) {
+    for key in ["A", "aa", "bb", "da", "ee", "ga", "i"] {
+        check_absent(rt.alloc(), &rt, &[1, 2, 3, 4, 5], key);
+    }
+}
+
+#[test]
+fn a_page_whose_filter_errs_is_fetched_in_vain(rt: HostRuntime) {
+    check_absent(rt.alloc(), &rt, &[1, 3, 4, 5], "cgaby");
+    check_refused(rt.alloc(), &rt, "cgaby", 2);
 }
 
 /// A range from a key up to another one, if there is one, the pages that are torn, and the keys that are given.
@@ -223,28 +241,31 @@ const GIVEN: [Given; 16] = [
     ("g", Some("b"), &[1, 2, 3, 4, 5], ""),
 ];
 
+fn check_given(alloc: Global, rt: &impl Abort, given: Given) {
+    let (lo, hi, torn, keys) = given;
+    let entries = entries_between(alloc, rt, torn, lo, hi).expect(rt, "entries");
+    let letters = letters(alloc, rt, &entries);
+    assert_eq!(rt; letters.as_slice(), keys.as_bytes(), "from {lo}");
+}
+
 #[test]
-fn a_cursor_gives_the_entries_of_its_range_in_order(rt: HostRuntime) -> Result<(), Fail> {
-    let alloc = rt.alloc();
-    for (lo, hi, torn, keys) in GIVEN {
-        let entries = entries_between(alloc, torn, lo, hi)?.ok().ok_or("entries")?;
-        assert_eq!(rt;
-            letters(alloc, &entries)?.as_slice(),
-            keys.as_bytes(),
-            "from {lo}"
-        );
+fn a_cursor_gives_the_entries_of_its_range_in_order(rt: HostRuntime) {
+    for given in GIVEN {
+        check_given(rt.alloc(), &rt, given);
     }
-    Ok(())
 }
 
 /// Where a cursor begins, and the page that is torn.
 const TORN: [(&str, u64); 5] = [("a", 2), ("c", 1), ("a", 5), ("e", 3), ("f", 4)];
 
+fn check_cursor_refused(alloc: Global, rt: &impl Abort, lo: &str, page: u64) {
+    let refused = entries_between(alloc, rt, &[page], lo, None).err();
+    assert_eq!(rt; refused, Some(damaged(page)));
+}
+
 #[test]
-fn a_cursor_tells_a_damaged_page_by_its_name(rt: HostRuntime) -> Result<(), Fail> {
+fn a_cursor_tells_a_damaged_page_by_its_name(rt: HostRuntime) {
     for (lo, page) in TORN {
-        let refused = entries_between(rt.alloc(), &[page], lo, None)?.err();
-        assert_eq!(rt; refused, Some(damaged(page)));
+        check_cursor_refused(rt.alloc(), &rt, lo, page);
     }
-    Ok(())
 }

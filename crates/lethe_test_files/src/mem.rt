@@ -1,10 +1,10 @@
 //! A buffer of entries.
 
 use crate::common::{insert, key_of, value_of};
-use lethe_base::{Body, Entry};
+use lethe_base::{Body, Entry, Key};
 use lethe_mem::{Buffer, VecBuffer, first_from};
 use std::alloc::Global;
-use std::test::Fail;
+use std::process::Abort;
 
 /// The entries that are put, by their places and keys.
 const PUTS: [(u64, &str); 7] = [
@@ -27,70 +27,86 @@ const KEPT: [(&str, u64, usize); 5] = [
 ];
 
 /// A put of the key at a place, which is its delete key too.
-fn put_of(alloc: Global, key: &str, seq: u64) -> Result<Entry, Fail> {
-    let key = key_of(alloc, key)?;
-    let value = value_of(alloc, b"")?;
-    Ok(Entry {
+fn put_of(alloc: Global, rt: &impl Abort, key: &str, seq: u64) -> Entry {
+    Entry {
         seq,
-        key,
-        body: Body::Put { dkey: seq, value },
+        key: key_of(alloc, rt, key),
+        body: Body::Put {
+            dkey: seq,
+            value: value_of(alloc, rt, b""),
+        },
         since: None,
-    })
+    }
 }
 
-/// The place of the key's entry.
-fn found(alloc: Global, buffer: &VecBuffer, key: &str) -> Result<Option<u64>, Fail> {
-    Ok(buffer.find(&key_of(alloc, key)?).map(|entry| entry.seq))
-}
-
-/// The place of the entry that stands there in the buffer's order.
-fn seq_at(buffer: &VecBuffer, place: usize) -> Option<u64> {
-    buffer.at(place).map(|entry| entry.seq)
-}
-
-fn below(alloc: Global, buffer: &VecBuffer, key: &str) -> Result<usize, Fail> {
-    Ok(first_from(buffer, &key_of(alloc, key)?))
+fn seq_of(entry: Option<&Entry>) -> Option<u64> {
+    entry.map(|entry| entry.seq)
 }
 
 /// The buffer of the entries that are put.
-fn filled(alloc: Global) -> Result<VecBuffer, Fail> {
+fn filled(alloc: Global, rt: &impl Abort) -> VecBuffer {
     let mut buffer = VecBuffer::new(alloc);
     for (seq, key) in PUTS {
-        insert(&mut buffer, put_of(alloc, key, seq)?)?;
+        insert(rt, &mut buffer, put_of(alloc, rt, key, seq));
     }
-    Ok(buffer)
+    buffer
 }
 
 /// A copy of the buffer, into which two entries more are put.
-fn copy_with_more(alloc: Global, buffer: &VecBuffer) -> Result<VecBuffer, Fail> {
-    let mut copy = buffer.copy()?;
-    insert(&mut copy, put_of(alloc, "b", 8)?)?;
-    insert(&mut copy, put_of(alloc, "m", 9)?)?;
-    Ok(copy)
+fn copy_with_more(alloc: Global, rt: &impl Abort, buffer: &VecBuffer) -> VecBuffer {
+    let mut copy = buffer.copy().expect(rt, "memory");
+    insert(rt, &mut copy, put_of(alloc, rt, "b", 8));
+    insert(rt, &mut copy, put_of(alloc, rt, "m", 9));
+    copy
+}
+
+/// Whether the key stands at the place in the buffer's order, and its entry's place is that one.
+fn has_at(buffer: &VecBuffer, key: &Key, place: usize, seq: u64) -> bool {
+    first_from(buffer, key) == place
+        && seq_of(buffer.find(key)) == Some(seq)
+        && seq_of(buffer.at(place)) == Some(seq)
+}
+
+fn check_kept(alloc: Global, rt: &impl Abort, buffer: &VecBuffer, copy: &VecBuffer) {
+    for (place, (text, seq, lower)) in KEPT.into_iter().enumerate() {
+        let key = key_of(alloc, rt, text);
+        let kept = has_at(buffer, &key, place, seq) && first_from(copy, &key) == lower;
+        assert!(rt; kept, "{text}");
+    }
+}
+
+fn check_absent(alloc: Global, rt: &impl Abort, buffer: &VecBuffer) {
+    for text in ["b", "aa", "y"] {
+        let key = key_of(alloc, rt, text);
+        assert!(rt; buffer.find(&key).is_none(), "{text}");
+    }
+}
+
+/// Whether the copy has the two entries more, of which one replaces an earlier one.
+fn has_more(copy: &VecBuffer, replaced: &Key) -> bool {
+    copy.len() == 6
+        && !copy.is_empty()
+        && seq_of(copy.at(2)) == Some(4)
+        && seq_of(copy.find(replaced)) == Some(9)
+}
+
+/// Whether the buffer has five entries, all before the key.
+fn ends_before(buffer: &VecBuffer, key: &Key) -> bool {
+    buffer.len() == 5 && buffer.at(5).is_none() && first_from(buffer, key) == 5
+}
+
+fn is_without_entries(buffer: &VecBuffer) -> bool {
+    buffer.is_empty() && buffer.at(0).is_none()
 }
 
 #[test]
-fn a_buffer_keeps_the_last_entry_of_each_key_in_order(rt: HostRuntime) -> Result<(), Fail> {
+fn a_buffer_keeps_the_last_entry_of_each_key_in_order(rt: HostRuntime) {
     let alloc = rt.alloc();
-    let empty = VecBuffer::new(alloc);
-    assert!(rt; empty.is_empty() && empty.at(0).is_none());
-    let buffer = filled(alloc)?;
-    let copy = copy_with_more(alloc, &buffer)?;
-    assert_eq!(rt; buffer.len(), 5);
-    assert_eq!(rt; copy.len(), 6);
-    assert!(rt; !copy.is_empty());
-    for (place, (key, seq, lower)) in KEPT.into_iter().enumerate() {
-        assert_eq!(rt; found(alloc, &buffer, key)?, Some(seq), "{key}");
-        assert_eq!(rt; seq_at(&buffer, place), Some(seq), "{key}");
-        assert_eq!(rt; below(alloc, &buffer, key)?, place, "{key}");
-        assert_eq!(rt; below(alloc, &copy, key)?, lower, "{key}");
-    }
-    assert_eq!(rt; seq_at(&copy, 2), Some(4));
-    assert_eq!(rt; found(alloc, &copy, "m")?, Some(9));
-    for key in ["b", "aa", "y"] {
-        assert_eq!(rt; found(alloc, &buffer, key)?, None, "{key}");
-    }
-    assert!(rt; buffer.at(5).is_none());
-    assert_eq!(rt; below(alloc, &buffer, "y")?, 5);
-    Ok(())
+    assert!(rt; is_without_entries(&VecBuffer::new(alloc)));
+    let buffer = filled(alloc, &rt);
+    let copy = copy_with_more(alloc, &rt, &buffer);
+    check_kept(alloc, &rt, &buffer, &copy);
+    check_absent(alloc, &rt, &buffer);
+    assert!(rt; has_more(&copy, &key_of(alloc, &rt, "m")));
+    assert!(rt; ends_before(&buffer, &key_of(alloc, &rt, "y")));
 }

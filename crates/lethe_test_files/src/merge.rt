@@ -9,7 +9,7 @@ use lethe_memdisk::{MemDisk, MemPort};
 use lethe_merge::{Merger, merge_entries, settle};
 use lethe_tile::is_ascending;
 use std::alloc::Global;
-use std::test::Fail;
+use std::process::Abort;
 
 /// Gives entries that it holds, of which the last comes first. It has memory for so many answers.
 #[derive(Drop)]
@@ -48,34 +48,33 @@ type Row = (&'static str, u64, Option<u64>, Option<u64>);
 /// An erase: its place, its time, and its range.
 type Erase = (u64, u64, u64, u64);
 
-fn entry_of(alloc: Global, row: &Row) -> Result<Entry, Fail> {
+fn entry_of(alloc: Global, rt: &impl Abort, row: &Row) -> Entry {
     let (key, seq, dkey, since) = *row;
-    Ok(Entry {
+    Entry {
         seq,
-        key: key_of(alloc, key)?,
-        body: body_of(alloc, dkey, b"")?,
+        key: key_of(alloc, rt, key),
+        body: body_of(alloc, rt, dkey, b""),
         since,
-    })
+    }
 }
 
-fn cursor_of(alloc: Global, rows: &[Row]) -> Result<Listed, Fail> {
+fn cursor_of(alloc: Global, rt: &impl Abort, rows: &[Row], answers: u64) -> Listed {
     let mut entries = Vec::new(alloc);
     for row in rows.iter().rev() {
-        entries.push(entry_of(alloc, row)?)?;
+        entries.push(entry_of(alloc, rt, row)).expect(rt, "memory");
     }
-    Ok(Listed {
-        entries,
-        answers: u64::MAX,
-    })
+    Listed { entries, answers }
 }
 
-fn erases_of(alloc: Global, rows: &[Erase]) -> Result<Vec<Pending>, Fail> {
+fn erases_of(alloc: Global, rt: &impl Abort, rows: &[Erase]) -> Vec<Pending> {
     let mut erases = Vec::new(alloc);
     for row in rows {
         let (seq, time, lo, hi) = *row;
-        erases.push(erase_of(seq, time, lo, hi)?)?;
+        erases
+            .push(erase_of(rt, seq, time, lo, hi))
+            .expect(rt, "memory");
     }
-    Ok(erases)
+    erases
 }
 
 fn is_row(entry: &Entry, row: &Row) -> bool {
@@ -104,13 +103,15 @@ struct Case {
     wanted: &'static [Row],
 }
 
-fn merger_of(alloc: Global, case: &Case) -> Result<Merger<MemDisk, Listed>, Fail> {
+fn merger_of(alloc: Global, rt: &impl Abort, case: &Case) -> Merger<MemDisk, Listed> {
     let mut cursors = Vec::new(alloc);
     for list in case.lists {
-        cursors.push(cursor_of(alloc, list)?)?;
+        cursors
+            .push(cursor_of(alloc, rt, list, u64::MAX))
+            .expect(rt, "memory");
     }
-    let erases = erases_of(alloc, case.erases)?;
-    Ok(Merger::new(alloc, cursors, erases, case.alone)?)
+    let erases = erases_of(alloc, rt, case.erases);
+    Merger::new(alloc, cursors, erases, case.alone).expect(rt, "memory")
 }
 
 /// The next entry that is given.
@@ -122,28 +123,38 @@ fn next_of(
     merger.next(alloc, port)
 }
 
-/// Whether the merger gives the entries that are wanted and then twice none.
-fn gives(alloc: Global, port: &mut MemPort, case: &Case) -> Result<bool, Fail> {
-    let mut merger = merger_of(alloc, case)?;
-    for row in case.wanted {
-        match next_of(alloc, &mut merger, port)? {
-            Some(entry) if is_row(&entry, row) => {}
-            _ => return Ok(false),
-        }
-    }
-    let end = next_of(alloc, &mut merger, port)?;
-    Ok(end.is_none() && next_of(alloc, &mut merger, port)?.is_none())
+/// The row has to be given next, and without one there has to be an end.
+fn check_next(
+    alloc: Global,
+    rt: &impl Abort,
+    merger: &mut Merger<MemDisk, Listed>,
+    port: &mut MemPort,
+    row: Option<&Row>,
+) {
+    let given = next_of(alloc, merger, port).expect(rt, "an answer");
+    let same = match (&given, row) {
+        (Some(entry), Some(row)) => is_row(entry, row),
+        (None, None) => true,
+        _ => false,
+    };
+    assert!(rt; same, "{row:?}");
 }
 
-/// The place of the first case in which something else is given.
-fn first_other(alloc: Global, cases: &[Case]) -> Result<Option<usize>, Fail> {
+/// The merger has to give the entries that are wanted and then twice none.
+fn check_case(alloc: Global, rt: &impl Abort, case: &Case) {
     let mut port = MemPort::new();
-    for (place, case) in cases.iter().enumerate() {
-        if !gives(alloc, &mut port, case)? {
-            return Ok(Some(place));
-        }
+    let mut merger = merger_of(alloc, rt, case);
+    for row in case.wanted {
+        check_next(alloc, rt, &mut merger, &mut port, Some(row));
     }
-    Ok(None)
+    check_next(alloc, rt, &mut merger, &mut port, None);
+    check_next(alloc, rt, &mut merger, &mut port, None);
+}
+
+fn check_cases(alloc: Global, rt: &impl Abort, cases: &[Case]) {
+    for case in cases {
+        check_case(alloc, rt, case);
+    }
 }
 
 const NEWER: &[Row] = &[("b", 7, Some(1), None), ("d", 9, None, Some(4))];
@@ -227,9 +238,8 @@ const NEWEST: [Case; 8] = [
 ];
 
 #[test]
-fn of_each_key_its_newest_entry_is_given_with_the_least_time(rt: HostRuntime) -> Result<(), Fail> {
-    assert_eq!(rt; first_other(rt.alloc(), &NEWEST)?, None);
-    Ok(())
+fn of_each_key_its_newest_entry_is_given_with_the_least_time(rt: HostRuntime) {
+    check_cases(rt.alloc(), &rt, &NEWEST);
 }
 
 const FIRST: &[Row] = &[("a", 3, Some(1), None)];
@@ -261,9 +271,8 @@ const EQUAL: [Case; 3] = [
 ];
 
 #[test]
-fn of_equal_places_the_earlier_cursors_entry_is_given(rt: HostRuntime) -> Result<(), Fail> {
-    assert_eq!(rt; first_other(rt.alloc(), &EQUAL)?, None);
-    Ok(())
+fn of_equal_places_the_earlier_cursors_entry_is_given(rt: HostRuntime) {
+    check_cases(rt.alloc(), &rt, &EQUAL);
 }
 
 const PUT: &[Row] = &[("a", 4, Some(10), None)];
@@ -334,9 +343,8 @@ const ERASED: [Case; 9] = [
 ];
 
 #[test]
-fn a_put_that_an_erase_matches_is_given_as_a_tombstone(rt: HostRuntime) -> Result<(), Fail> {
-    assert_eq!(rt; first_other(rt.alloc(), &ERASED)?, None);
-    Ok(())
+fn a_put_that_an_erase_matches_is_given_as_a_tombstone(rt: HostRuntime) {
+    check_cases(rt.alloc(), &rt, &ERASED);
 }
 
 const STRONG: &[Row] = &[("a", 1, Some(1), None), ("c", 2, Some(1), None)];
@@ -344,28 +352,24 @@ const STRONG: &[Row] = &[("a", 1, Some(1), None), ("c", 2, Some(1), None)];
 const WEAK: &[Row] = &[("b", 3, Some(1), None), ("d", 4, Some(1), None)];
 
 /// A merger of two lists, the second of which has memory for one answer alone.
-fn weak_merger(alloc: Global) -> Result<Merger<MemDisk, Listed>, Fail> {
-    let strong = cursor_of(alloc, STRONG)?;
-    let mut weak = cursor_of(alloc, WEAK)?;
-    weak.answers = 1;
+fn weak_merger(alloc: Global, rt: &impl Abort) -> Merger<MemDisk, Listed> {
+    let strong = cursor_of(alloc, rt, STRONG, u64::MAX);
+    let weak = cursor_of(alloc, rt, WEAK, 1);
     let mut cursors = Vec::new(alloc);
-    cursors.push(strong)?;
-    cursors.push(weak)?;
-    Ok(Merger::new(alloc, cursors, Vec::new(alloc), false)?)
+    cursors.push(strong).expect(rt, "memory");
+    cursors.push(weak).expect(rt, "memory");
+    Merger::new(alloc, cursors, Vec::new(alloc), false).expect(rt, "memory")
 }
 
 #[test]
-fn a_refusal_of_a_cursor_is_handed_on(rt: HostRuntime) -> Result<(), Fail> {
+fn a_refusal_of_a_cursor_is_handed_on(rt: HostRuntime) {
     let alloc = rt.alloc();
     let mut port = MemPort::new();
-    let mut merger = weak_merger(alloc)?;
-    for seq in [1, 3] {
-        let entry = next_of(alloc, &mut merger, &mut port)?.ok_or("an entry")?;
-        assert_eq!(rt; entry.seq, seq);
-    }
+    let mut merger = weak_merger(alloc, &rt);
+    check_next(alloc, &rt, &mut merger, &mut port, STRONG.first());
+    check_next(alloc, &rt, &mut merger, &mut port, WEAK.first());
     let refused = next_of(alloc, &mut merger, &mut port).err();
     assert_eq!(rt; refused, Some(ReadRefused::NoMemory));
-    Ok(())
 }
 
 /// Entries, and what is left of them under the erases.
@@ -377,12 +381,12 @@ struct Left {
     wanted: &'static [Row],
 }
 
-fn entries_of(alloc: Global, rows: &[Row]) -> Result<Vec<Entry>, Fail> {
+fn entries_of(alloc: Global, rt: &impl Abort, rows: &[Row]) -> Vec<Entry> {
     let mut entries = Vec::new(alloc);
     for row in rows {
-        entries.push(entry_of(alloc, row)?)?;
+        entries.push(entry_of(alloc, rt, row)).expect(rt, "memory");
     }
-    Ok(entries)
+    entries
 }
 
 const PAIR: &[Row] = &[("a", 4, Some(10), None), ("b", 9, Some(30), Some(6))];
@@ -416,22 +420,19 @@ const SETTLED: [Left; 4] = [
 ];
 
 /// What is left of a list whose keys ascend.
-fn settled(alloc: Global, row: &Left) -> Result<Vec<Entry>, Fail> {
-    let entries = entries_of(alloc, row.entries)?;
-    if !is_ascending(&entries) {
-        return Err(Fail::new("keys that ascend"));
-    }
-    let erases = erases_of(alloc, row.erases)?;
-    Ok(settle(alloc, entries, &erases, row.alone)?)
+fn settled(alloc: Global, rt: &impl Abort, row: &Left) -> Vec<Entry> {
+    let entries = entries_of(alloc, rt, row.entries);
+    assert!(rt; is_ascending(&entries));
+    let erases = erases_of(alloc, rt, row.erases);
+    settle(alloc, entries, &erases, row.alone).expect(rt, "memory")
 }
 
 #[test]
-fn one_list_is_settled(rt: HostRuntime) -> Result<(), Fail> {
+fn one_list_is_settled(rt: HostRuntime) {
     for (place, row) in SETTLED.iter().enumerate() {
-        let left = settled(rt.alloc(), row)?;
+        let left = settled(rt.alloc(), &rt, row);
         assert!(rt; are_rows(&left, row.wanted), "row {place}");
     }
-    Ok(())
 }
 
 const MIXED: &[Row] = &[
@@ -463,17 +464,16 @@ const GATHERED: [Left; 2] = [
 ];
 
 /// What is left of entries in any order.
-fn gathered(alloc: Global, row: &Left) -> Result<Vec<Entry>, Fail> {
-    let entries = entries_of(alloc, row.entries)?;
-    let erases = erases_of(alloc, row.erases)?;
-    Ok(merge_entries(alloc, entries, &erases, row.alone)?)
+fn gathered(alloc: Global, rt: &impl Abort, row: &Left) -> Vec<Entry> {
+    let entries = entries_of(alloc, rt, row.entries);
+    let erases = erases_of(alloc, rt, row.erases);
+    merge_entries(alloc, entries, &erases, row.alone).expect(rt, "memory")
 }
 
 #[test]
-fn entries_in_any_order_are_merged(rt: HostRuntime) -> Result<(), Fail> {
+fn entries_in_any_order_are_merged(rt: HostRuntime) {
     for (place, row) in GATHERED.iter().enumerate() {
-        let left = gathered(rt.alloc(), row)?;
+        let left = gathered(rt.alloc(), &rt, row);
         assert!(rt; are_rows(&left, row.wanted), "row {place}");
     }
-    Ok(())
 }

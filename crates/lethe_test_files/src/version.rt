@@ -1,17 +1,18 @@
 //! The files of a version.
-ghost use Rattle.std.specs.Prelude.{IfOk};
+ghost use Rattle.std.specs.Prelude.{All};
 ghost use Rattle.lethe_base.specs.Spelling.{HasSpelling};
 
 use crate::build::{build_files, config_of, spelled};
 use crate::common::{FILE, PAGE_AC, PAGE_BD, key_of};
-use crate::opening::{add_file, open_file};
+use crate::opening::{add_file, empty_disk, open_file};
 use lethe_base::{Body, Entry};
+use lethe_build::Built;
 use lethe_disk::Disk;
 use lethe_file::FileView;
 use lethe_memdisk::{MemDisk, MemPort};
 use lethe_version::Version;
 use std::alloc::Global;
-use std::test::Fail;
+use std::process::Abort;
 
 /// A key, and whether a page may have it: `A` and `e` have no tile, and no filter allows `bb`.
 const TOLD: [(&str, bool); 7] = [
@@ -25,25 +26,31 @@ const TOLD: [(&str, bool); 7] = [
 ];
 
 /// A version of these files in level 0.
-fn version_of(alloc: Global, files: Vec<FileView<MemDisk>>) -> Result<Version<MemDisk>, Fail> {
+fn version_of(alloc: Global, rt: &impl Abort, files: Vec<FileView<MemDisk>>) -> Version<MemDisk> {
     let mut levels = Vec::new(alloc);
-    levels.push(files)?;
-    Ok(Version::of(alloc, levels)?)
+    levels.push(files).expect(rt, "memory");
+    Version::of(alloc, levels).expect(rt, "memory")
 }
 
-/// Whether a page of the file may have the key.
-fn may_hold(alloc: Global, key: &str) -> Result<bool, Fail> {
-    let (file, _) = open_file(alloc, FILE, &[PAGE_AC, PAGE_BD], &[])?;
-    let version = version_of(alloc, vec![in alloc; file]?)?;
-    Ok(version.may_hold(&key_of(alloc, key)?))
+/// A version of the one file.
+fn one_file(alloc: Global, rt: &impl Abort) -> Version<MemDisk> {
+    let (file, _) = open_file(alloc, rt, FILE, &[PAGE_AC, PAGE_BD], &[]);
+    let mut files = Vec::new(alloc);
+    files.push(file).expect(rt, "memory");
+    version_of(alloc, rt, files)
+}
+
+fn check_told(alloc: Global, rt: &impl Abort, version: &Version<MemDisk>, key: &str, told: bool) {
+    let may_hold = version.may_hold(&key_of(alloc, rt, key));
+    assert_eq!(rt; may_hold, told, "{key}");
 }
 
 #[test]
-fn fences_and_filters_tell_which_keys_a_file_may_have(rt: HostRuntime) -> Result<(), Fail> {
+fn fences_and_filters_tell_which_keys_a_file_may_have(rt: HostRuntime) {
+    let version = one_file(rt.alloc(), &rt);
     for (key, told) in TOLD {
-        assert_eq!(rt; may_hold(rt.alloc(), key)?, told, "{key}");
+        check_told(rt.alloc(), &rt, &version, key, told);
     }
-    Ok(())
 }
 
 /// The places of the tombstones of `a` in the first file and in the second one, if they have one, and the time of the one that is found.
@@ -57,14 +64,15 @@ const FOUND: [(Option<u64>, Option<u64>, Option<u64>); 6] = [
     (None, None, None),
 ];
 
-fn tombstone(alloc: Global, key: &str, seq: u64, since: u64) -> Result<Entry, Fail>
-    ensures { IfOk result HasSpelling }
+fn tombstone(alloc: Global, rt: &impl Abort, key: &str, seq: u64, since: u64) -> Entry
+    ensures { HasSpelling result }
 {
     spelled(
         alloc,
+        rt,
         Entry {
             seq,
-            key: key_of(alloc, key)?,
+            key: key_of(alloc, rt, key),
             body: Body::Tomb,
             since: Some(since),
         },
@@ -79,55 +87,70 @@ struct Content {
     greatest: u64,
 }
 
+/// The entries of the content.
+fn entries_of(alloc: Global, rt: &impl Abort, content: &Content) -> Vec<Entry>
+    ensures { All HasSpelling result.items }
+{
+    let since = content.since;
+    let mut entries = Vec::new(alloc);
+    if let Some(seq) = content.place {
+        entries
+            .push(tombstone(alloc, rt, "a", seq, since))
+            .expect(rt, "memory");
+    }
+    entries
+        .push(tombstone(alloc, rt, "b", content.greatest, since))
+        .expect(rt, "memory");
+    entries
+}
+
+/// The file that was built, which has one page.
+fn opened(alloc: Global, rt: &impl Abort, disk: &mut MemDisk, built: &Built) -> FileView<MemDisk> {
+    let page = built.pages.items().first().expect(rt, "a page");
+    let header = built.header_bytes.items();
+    add_file(alloc, rt, disk, header, &[page.items()], &[])
+}
+
 /// A file of one page of tombstones, and the numbers behind `first`.
 fn file_of(
     alloc: Global,
+    rt: &impl Abort,
     disk: &mut MemDisk,
     content: &Content,
     first: u64,
-) -> Result<FileView<MemDisk>, Fail> {
-    let mut entries = Vec::new(alloc);
-    if let Some(seq) = content.place {
-        entries.push(tombstone(alloc, "a", seq, content.since)?)?;
-    }
-    entries.push(tombstone(alloc, "b", content.greatest, content.since)?)?;
-    let files = build_files(alloc, entries, &config_of(2, 1)?, first)?;
-    let [built] = files.as_slice() else {
-        return Err(Fail::new("one file"));
-    };
-    let [page] = built.pages.items() else {
-        return Err(Fail::new("one page"));
-    };
-    add_file(
-        alloc,
-        disk,
-        built.header_bytes.items(),
-        &[page.items()],
-        &[],
-    )
+) -> FileView<MemDisk> {
+    let entries = entries_of(alloc, rt, content);
+    let files = build_files(alloc, rt, entries, &config_of(rt, 2, 1), first);
+    opened(alloc, rt, disk, files.first().expect(rt, "a file"))
 }
 
 /// The files of both contents, of which the second one's has the lower numbers.
 fn file_pair(
     alloc: Global,
+    rt: &impl Abort,
     disk: &mut MemDisk,
     first: &Content,
     second: &Content,
-) -> Result<Vec<FileView<MemDisk>>, Fail> {
+) -> Vec<FileView<MemDisk>> {
     let mut files = Vec::new(alloc);
-    files.push(file_of(alloc, disk, second, 1)?)?;
-    files.push(file_of(alloc, disk, first, 3)?)?;
-    Ok(files)
+    files
+        .push(file_of(alloc, rt, disk, second, 1))
+        .expect(rt, "memory");
+    files
+        .push(file_of(alloc, rt, disk, first, 3))
+        .expect(rt, "memory");
+    files
 }
 
 /// A version of two files in level 0, where the first one's greatest place is greater, and a port of their disk. Each can have an entry
 /// newer than those of `a`, so that both are asked.
 fn two_files(
     alloc: Global,
+    rt: &impl Abort,
     first: Option<u64>,
     second: Option<u64>,
-) -> Result<(Version<MemDisk>, MemPort), Fail> {
-    let mut disk = MemDisk::new(alloc, 100, Vec::new(alloc))?;
+) -> (Version<MemDisk>, MemPort) {
+    let mut disk = empty_disk(alloc, rt);
     let first = Content {
         place: first,
         since: 1,
@@ -138,21 +161,32 @@ fn two_files(
         since: 2,
         greatest: 8,
     };
-    let files = file_pair(alloc, &mut disk, &first, &second)?;
-    let version = version_of(alloc, files)?;
-    let port = disk.port(alloc)?;
-    Ok((version, port))
+    let files = file_pair(alloc, rt, &mut disk, &first, &second);
+    let version = version_of(alloc, rt, files);
+    let port = disk.port(alloc).expect(rt, "a port");
+    (version, port)
+}
+
+/// The time of the entry that is found of `a`.
+fn found(
+    alloc: Global,
+    rt: &impl Abort,
+    version: &Version<MemDisk>,
+    port: &mut MemPort,
+) -> Option<u64> {
+    let key = key_of(alloc, rt, "a");
+    let entry = version.find(alloc, port, &key).expect(rt, "an answer");
+    entry.and_then(|entry| entry.since)
 }
 
 #[test]
-fn the_greater_place_is_newer_and_of_equal_ones_the_first(rt: HostRuntime) -> Result<(), Fail> {
+fn the_greater_place_is_newer_and_of_equal_ones_the_first(rt: HostRuntime) {
     let alloc = rt.alloc();
     for (place, (first, second, since)) in FOUND.into_iter().enumerate() {
-        let (version, mut port) = two_files(alloc, first, second)?;
-        let found = version.find(alloc, &mut port, &key_of(alloc, "a")?)?;
-        assert_eq!(rt; found.and_then(|entry| entry.since), since, "row {place}");
+        let (version, mut port) = two_files(alloc, &rt, first, second);
+        let found = found(alloc, &rt, &version, &mut port);
+        assert_eq!(rt; found, since, "row {place}");
     }
-    Ok(())
 }
 
 fn is_shared<T: Send + Sync>(_value: &T) {}

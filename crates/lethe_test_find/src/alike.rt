@@ -3,10 +3,11 @@
 use lethe_base::{Body, Entry, Key};
 use lethe_page::{find_entry, read_page};
 use std::alloc::Global;
-use std::test::Fail;
+use std::process::Abort;
 
-pub fn key_of(alloc: Global, bytes: &[u8]) -> Result<Key, Fail> {
-    Ok(Key::new(bytes.to_vec(alloc)?)?)
+pub fn key_of(alloc: Global, rt: &impl Abort, bytes: &[u8]) -> Key {
+    let bytes = bytes.to_vec(alloc).expect(rt, "memory");
+    Key::new(bytes).expect(rt, "a key")
 }
 
 fn is_same_body(one: &Body, other: &Body) -> bool {
@@ -52,4 +53,11 @@ pub fn finds_alike(alloc: Global, bytes: &[u8], key: &Key) -> bool {
         (Err(one), Err(other)) => one == other,
         _ => false,
     }
+}
+
+/// The bytes with another byte at a place.
+pub fn changed(alloc: Global, rt: &impl Abort, bytes: &[u8], place: usize, byte: u8) -> Vec<u8> {
+    let mut copy = bytes.to_vec(alloc).expect(rt, "memory");
+    *copy.get_mut(place).expect(rt, "a place") = byte;
+    copy
 }

@@ -1,8 +1,7 @@
 //! A file on a disk that doesn't hold what was written: pages whose digest is right and that are no pages, or others than the line tells of.
-ghost use Rattle.std.specs.Prelude.{◌≡◌, ◌+◌, length, IfOk, OnOk};
 ghost use Rattle.lethe_header.specs.Headers.{HasSpelling};
 
-use crate::alike::key_of;
+use crate::alike::{changed, key_of};
 use lethe_base::{Kind, Name};
 use lethe_disk::ReadRefused;
 use lethe_file::FileView;
@@ -10,8 +9,8 @@ use lethe_header::{Header, read_header};
 use lethe_memdisk::{MemDisk, MemPage, MemPort};
 use sha2::{Digest, Sha256};
 use std::alloc::Global;
+use std::process::Abort;
 use std::sync::Arc;
-use std::test::Fail;
 
 /// The puts of `a` with delete key 11 and of `c` with delete key 12.
 const PAGE: &[u8] =
@@ -21,45 +20,49 @@ const PAGE: &[u8] =
 const HEADER: &[u8] =
     b"LF\x01\0\0\0\0\0\0\0\x03\0\x01\x01a\x01c\x01\0\0\0\0\0\0\0\x01\x01\0\0\0\x02\0\0\0\0\0\0\0\x03\0\0\0\0\0\0\0\0\x0b\0\0\0\0\0\0\0\x0c\0\0\0\x01\xff\xff\xff\xff\xff\xff\xff\xff";
 
-fn header_of(alloc: Global, page: &[u8]) -> Result<Header, Fail>
-    ensures { IfOk result HasSpelling }
+fn header_of(alloc: Global, rt: &impl Abort, page: &[u8]) -> Header
+    ensures { HasSpelling result }
 {
     let mut hasher = Sha256::new();
     hasher.update(page);
-    let mut bytes = HEADER.to_vec(alloc)?;
-    bytes.extend_from_slice(&hasher.finalize())?;
-    match read_header(alloc, &bytes) {
-        Ok(header) => Ok(header),
-        Err(_) => Err(Fail::new("a header")),
-    }
+    let mut bytes = HEADER.to_vec(alloc).expect(rt, "memory");
+    bytes
+        .extend_from_slice(&hasher.finalize())
+        .expect(rt, "memory");
+    read_header(alloc, &bytes).expect(rt, "a header")
 }
 
 /// The file whose page these bytes are, and whose line has their digest.
-fn file_of(alloc: Global, page: &[u8]) -> Result<FileView<MemDisk>, Fail> {
-    let header = header_of(alloc, page)?;
+fn file_of(alloc: Global, rt: &impl Abort, page: &[u8]) -> FileView<MemDisk> {
+    let header = header_of(alloc, rt, page);
     let [tile] = header.tiles.items() else {
-        return Err(Fail::new("one tile"));
+        panic!(rt; "no tile alone")
     };
-    if tile.pages.items().len() != 1 {
-        return Err(Fail::new("one page"));
-    }
-    let opened = Arc::new(alloc, MemPage::of(page.to_vec(alloc)?))?;
-    Ok(FileView::new(alloc, header, vec![in alloc; opened]?)?)
+    assert!(rt; tile.pages.items().len() == 1);
+    let page = MemPage::of(page.to_vec(alloc).expect(rt, "memory"));
+    let mut opened = Vec::new(alloc);
+    let page = Arc::new(alloc, page).expect(rt, "memory");
+    opened.push(page).expect(rt, "memory");
+    FileView::new(alloc, header, opened).expect(rt, "memory")
 }
 
 /// What is found of a key: the place of its entry, nothing, or why it is refused.
-fn found(alloc: Global, page: &[u8], key: &str) -> Result<Result<Option<u64>, ReadRefused>, Fail> {
-    let file = file_of(alloc, page)?;
-    let found = file.find(alloc, &mut MemPort::new(), &key_of(alloc, key.as_bytes())?);
-    Ok(found.map(|entry| entry.map(|entry| entry.seq)))
+fn found(
+    alloc: Global,
+    rt: &impl Abort,
+    file: &FileView<MemDisk>,
+    key: &str,
+) -> Result<Option<u64>, ReadRefused> {
+    let key = key_of(alloc, rt, key.as_bytes());
+    let found = file.find(alloc, &mut MemPort::new(), &key);
+    found.map(|entry| entry.map(|entry| entry.seq))
 }
 
 /// The page with another byte at a place, and cut at an end.
-fn bad(alloc: Global, place: usize, byte: u8, end: usize) -> Result<Vec<u8>, Fail> {
-    let mut bytes = PAGE.to_vec(alloc)?;
-    *bytes.get_mut(place).ok_or("a place")? = byte;
-    bytes.resize(end, 0)?;
-    Ok(bytes)
+fn bad(alloc: Global, rt: &impl Abort, place: usize, byte: u8, end: usize) -> Vec<u8> {
+    let mut bytes = changed(alloc, rt, PAGE, place, byte);
+    bytes.resize(end, 0).expect(rt, "memory");
+    bytes
 }
 
 /// A place, the byte that is put there, and the length: bytes that are no page, and the page of other entries or of another class than those that the line tells of.
@@ -79,25 +82,32 @@ const BAD: [(usize, u8, usize); 9] = [
     (0, b'L', 55),
 ];
 
-#[test]
-fn a_page_of_the_right_digest_that_is_no_page_answers_nothing(rt: HostRuntime) -> Result<(), Fail> {
-    let alloc = rt.alloc();
+/// Each key is found in the page.
+fn check_sound(alloc: Global, rt: &impl Abort) {
+    let file = file_of(alloc, rt, PAGE);
     for (key, seq) in [("a", Some(1)), ("b", None), ("c", Some(3))] {
-        assert_eq!(rt; found(alloc, PAGE, key)?, Ok(seq), "{key}");
+        assert_eq!(rt; found(alloc, rt, &file, key), Ok(seq), "{key}");
     }
+}
+
+/// The page is told as damaged, whichever key is looked for.
+fn check_damaged(alloc: Global, rt: &impl Abort, page: &[u8]) {
     let name = Name {
         kind: Kind::Page,
         no: 1,
     };
-    for (place, byte, end) in BAD {
-        let bytes = bad(alloc, place, byte, end)?;
-        for key in ["a", "b", "c"] {
-            assert_eq!(rt;
-                found(alloc, &bytes, key)?,
-                Err(ReadRefused::Damaged { name }),
-                "{key}, {byte} at {place} of {end}"
-            );
-        }
+    let file = file_of(alloc, rt, page);
+    for key in ["a", "b", "c"] {
+        let refused = Err(ReadRefused::Damaged { name });
+        assert_eq!(rt; found(alloc, rt, &file, key), refused, "{key} in {page:?}");
     }
-    Ok(())
+}
+
+#[test]
+fn a_page_of_the_right_digest_that_is_no_page_answers_nothing(rt: HostRuntime) {
+    let alloc = rt.alloc();
+    check_sound(alloc, &rt);
+    for (place, byte, end) in BAD {
+        check_damaged(alloc, &rt, &bad(alloc, &rt, place, byte, end));
+    }
 }

@@ -6,6 +6,4 @@ mod alike;
 #[cfg(test)]
 mod files;
 #[cfg(test)]
-mod generated;
-#[cfg(test)]
 mod pages;

@@ -11,7 +11,7 @@ use Rattle.lethe_disk.proofs.Objects.{absent_of}
 use Rattle.lethe_test_files.proofs.opening.page_on.Goals as goal
 
 pub create-requires : goal.create-requires
-create-requires c =
+create-requires g c =
     let d = (seen_of c.args.disk.now).directory in
     let name : Name = record { kind = Page; no = c.args.no } in
     let is : c.deref.result.now ≡ keys d = c.deref.ensures.value ∙ c.in-Ok.ensures.done in
@@ -24,7 +24,7 @@ create-requires c =
     ap (λ (held : Held). object (seen_of held).directory name) c.in-Ok.ensures.call.answer ∙ absent
 
 pub open_page-requires-clause-present : goal.open_page-requires-clause-present
-open_page-requires-clause-present c =
+open_page-requires-clause-present g c =
     let name : Name = record { kind = Page; no = c.args.no } in
     let made = ap (λ (held : Held). object (seen_of held).directory name) c.in-Ok-create.ensures.answer ∙ object_inserted (seen_of c.names.new.self).directory name c.args.bytes.now in
     subst (λ o. IsSome o) (sym made) refl

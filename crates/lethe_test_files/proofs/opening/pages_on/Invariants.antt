@@ -3,4 +3,4 @@ use Rattle.lethe_header.specs.Facts.{lines_of}
 use Rattle.lethe_test_files.proofs.opening.pages_on.Given as goal
 
 abbrev pub invariant-loop-tile : goal.invariant-loop-tile
-invariant-loop-tile l = length l.opened.items ≡ length (lines_of (take l.tile-index l.tile-items))
+invariant-loop-tile g l = length l.opened.items ≡ length (lines_of (take l.tile-index l.tile-items))

@@ -1,6 +1,0 @@
-use denote.Param.Send.{sendable}
-use Rattle.lethe_memdisk.proofs.Crossing.{port_send}
-use Rattle.lethe_test_files.proofs.read.lists_files.Goals as goal
-
-pub scan-pairs-requires-send-D-Port : goal.scan-pairs-requires-send-D-Port
-scan-pairs-requires-send-D-Port c κs = search (sendable, port_send)
