@@ -1,5 +1,6 @@
 -- What a message shows.
-use Rattle.std.specs.Prelude.{◌≡◌, ◌<◌, ℕ, Bool, false, ◌||◌, ◌==◌, nat_lt, [], ◌∷◌, ◌++◌, length, map, take, if◌then◌else◌}
+use Rattle.std.specs.Prelude.{◌≡◌, ◌<◌, ℕ, Bool, false, ◌||◌, ◌==◌, nat_lt, [], ◌∷◌, ◌++◌, codes, length, map, take, if◌then◌else◌}
+use Rattle.std.specs.Fmt.{decimal}
 use Rattle.std.specs.List.{All}
 use Rattle.lethe_base.specs.Keys.{Bytes}
 
@@ -26,6 +27,10 @@ shown piece = map shown_byte piece
 unfoldable pub or_mark : Bytes → Bytes
 or_mark [] = 63 ∷ []
 or_mark (byte ∷ more) = byte ∷ more
+
+-- the status with which the program ends, and where the statuses are told
+unfoldable pub status_text : ℕ → Bytes
+status_text status = codes " (status " ++ decimal status ++ codes ": ./lethe --help)\n"
 
 -- what was given stands in a message, as far as it is shown
 pub record Shows (given message : Bytes) : Type 0 where

@@ -130,9 +130,8 @@ fn parent_of(dir: &[u8]) -> &[u8] {
 }
 
 fn without_slashes(path: &[u8]) -> &[u8] {
-    let mut path = path;
-    while let [front @ .., b'/'] = path {
-        path = front;
+    match path.iter().rposition(|byte| *byte != b'/') {
+        Some(last) => &path[..last + 1],
+        None => &[],
     }
-    path
 }

@@ -1,7 +1,7 @@
 //! A reason as one line of text.
 ghost use Rattle.std.specs.Prelude.{◌≡◌, ◌++◌, IfOk, OnOk, codes, take};
-ghost use Rattle.std.specs.Fmt.{decimal};
-ghost use Rattle.lethe_reasons.specs.Messages.{shown, shown_byte, or_mark};
+ghost use Rattle.std.specs.String.{string_bytes};
+ghost use Rattle.lethe_reasons.specs.Messages.{shown, shown_byte, status_text, or_mark};
 
 use lethe_base::NoMemory;
 use std::alloc::Global;
@@ -81,15 +81,22 @@ impl Message {
 
     /// The line that is printed of it: who says it, the reason, the status with which the program ends, and where the statuses are told.
     pub fn printed(&self, alloc: Global, status: u8) -> Result<Vec<u8>, NoMemory>
-        ensures { IfOk result (λ line. line.items ≡ codes "lethe: " ++ self.now ++ codes " (status " ++ decimal status ++ codes ": ./lethe --help)\n") }
+        ensures { IfOk result (λ line. line.items ≡ codes "lethe: " ++ self.now ++ status_text status) }
     {
         let mut line = Vec::new(alloc);
         line.extend_from_slice(b"lethe: ")?;
         line.extend_from_slice(&self.bytes)?;
-        let end = format!(in alloc; " (status {status}: ./lethe --help)\n")?;
-        line.extend_from_slice(end.as_bytes())?;
+        line.extend_from_slice(status_text(alloc, status)?.as_bytes())?;
         Ok(line)
     }
+}
+
+/// The end of a printed line.
+#[tactic(auto, unfolding(crate::specs::Messages::status_text))]
+fn status_text(alloc: Global, status: u8) -> Result<String, NoMemory>
+    ensures { IfOk result (λ text. string_bytes text ≡ status_text status) }
+{
+    Ok(format!(in alloc; " (status {status}: ./lethe --help)\n")?)
 }
 
 /// Nothing at all is told as `?`.

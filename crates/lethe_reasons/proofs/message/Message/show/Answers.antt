@@ -1,5 +1,5 @@
-use Rattle.std.proofs.Common.{subst, sym, ap, ◌∙◌}
-use Rattle.lethe_reasons.specs.Messages.{IsLine, shown}
+use Rattle.std.proofs.Common.{subst, sym}
+use Rattle.lethe_reasons.specs.Messages.{IsLine}
 use Rattle.lethe_reasons.proofs.Lines.{line_and}
 use Rattle.lethe_reasons.proofs.message.Message.show.Goals as goal
 
