@@ -32,7 +32,7 @@ use Rattle.lethe_run.specs.Printed.{bad_words, bad_line, open_line}
 use Rattle.lethe_run.specs.Scripts.{All, IsToldFrom, ScriptEnds, Serves}
 use Rattle.lethe_run.specs.Serving.{IsOn, IsCarried, Point}
 use Rattle.lethe_run.specs.Slots.{no_slots}
-use Rattle.lethe_run.specs.Reasons.{IsToldOf, IsWhy, Says, after_script, status_of}
+use Rattle.lethe_run.specs.Reasons.{IsShownOf, IsToldOf, IsWhy, Says, after_script, status_of}
 use Rattle.lethe_run.specs.Status.{EndsWith, status_for}
 use Rattle.lethe_run.specs.declared.reason.Reason.{Reason}
 use Rattle.lethe_run.specs.declared.reason.Reason.TheVariants as reason
@@ -91,10 +91,10 @@ pub said_bad_words : (run : Run) (end : Reason) → IsNoCommand run → IsUnused
 said_bad_words run end other unused (inl says) = subst (IsWhy run) (sym says.0) (other, says.1, unused)
 said_bad_words run end other unused (inr says) = subst (IsWhy run) (sym says.0) (says.1, bad_words, inl (other, refl, unused), says.2)
 
-pub said_bad_script : (run : Run) (end : Reason) (bad : BadLine) (text : Option Bytes) → IsNoScript run bad → IsToldOf (reason.Line bad text) (bad_line bad) run.taken_before run.taken run.SinkRose end → (config : Fields) → Asks run config → IsWhy run end
-said_bad_script run end bad text none (inl (inl says)) config asks = subst (IsWhy run) (sym says.0) (is_command run config asks, none, says.1)
-said_bad_script run end bad text none (inl (inr says)) config asks = subst (IsWhy run) (sym says.0) (says.1, bad_line bad, inr (inl (is_command run config asks, bad, none, refl)), says.2)
-said_bad_script run end bad text none (inr silent) config asks = subst (IsWhy run) (sym silent.0) (config, asks, inl (silent.1, inl none.1))
+pub said_bad_script : (run : Run) (end : Reason) (bad : BadLine) (text : Option Bytes) → IfSome text (λ front. IfSome run.source (λ bytes. IsShownOf bytes bad.line front)) → IsNoScript run bad → IsToldOf (reason.Line bad text) (bad_line bad) run.taken_before run.taken run.SinkRose end → (config : Fields) → Asks run config → IsWhy run end
+said_bad_script run end bad text shown none (inl (inl says)) config asks = subst (IsWhy run) (sym says.0) (is_command run config asks, none, says.1, shown)
+said_bad_script run end bad text shown none (inl (inr says)) config asks = subst (IsWhy run) (sym says.0) (says.1, bad_line bad, inr (inl (is_command run config asks, bad, none, refl)), says.2)
+said_bad_script run end bad text shown none (inr silent) config asks = subst (IsWhy run) (sym silent.0) (config, asks, inl (silent.1, inl none.1))
 
 -- A store that wasn't opened
 

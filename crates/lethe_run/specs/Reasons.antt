@@ -1,10 +1,10 @@
 -- Why a run ends, and what each reason says.
-use Rattle.std.specs.Prelude.{◌≡◌, ◌⊎◌, ℕ, true, Option}
+use Rattle.std.specs.Prelude.{◌≡◌, ◌⊎◌, ℕ, ◌-◌, true, Option, Some, IfSome, slice_get, take}
+use Rattle.lethe_script.specs.Grammar.{lines}
 use Rattle.std.specs.Io.KnownBytes.{Appends, Keeps}
 use Rattle.lethe_wire.specs.Causes.{AppendsFront}
 use Rattle.lethe_base.specs.Keys.{Bytes}
 use Rattle.lethe_base.specs.declared.config.Fields.{Fields}
-use Rattle.lethe_recover.specs.declared.opening.OpenWhy.{OpenWhy}
 use Rattle.lethe_recover.specs.declared.opening.OpenWhy.TheVariants as open_why
 use Rattle.lethe_run.specs.declared.reason.Reason.{Reason}
 use Rattle.lethe_run.specs.declared.reason.Reason.TheVariants as reason
@@ -26,12 +26,21 @@ status_of (reason.NotOpened why asked) = status_for why
 status_of reason.NoMemory = NoMemory
 status_of reason.Answer = Refused
 
--- What each reason says. The bad line is the one that the script's reader tells; the store wasn't opened for this cause, which isn't want of memory, with the
+-- the line of this number, from 1 on, is this
+abbrev pub IsLineAt : Bytes → ℕ → Bytes → Type 0
+IsLineAt bytes number line = slice_get (lines bytes) (number - 1) ≡ Some line
+
+-- these are the first bytes of the line of this number, of those that a script may have
+unfoldable pub IsShownOf : Bytes → ℕ → Bytes → Type 0
+IsShownOf bytes number front = (line : Bytes) × IsLineAt (take 16777216 bytes) number line × (front ≡ take 160 line)
+
+-- What each reason says. The bad line is the one that the script's reader tells, with its first bytes; the store wasn't opened for this cause, which isn't want of memory, with the
 -- configuration that the words ask for; and where an answer is the reason, each line was answered, and one tells of a change that failed or wasn't made, or of a read that wasn't answered.
 abbrev pub IsWhy : Run → Reason → Type 0
 IsWhy run reason.Nothing = EndsWith run Answered
 IsWhy run reason.Words = EndsWith run BadWords
-IsWhy run (reason.Line bad text) = IsCommand run × IsNoScript run bad × Appends run.taken_before run.taken (bad_line bad)
+IsWhy run (reason.Line bad text) =
+    IsCommand run × IsNoScript run bad × Appends run.taken_before run.taken (bad_line bad) × IfSome text (λ front. IfSome run.source (λ bytes. IsShownOf bytes bad.line front))
 IsWhy run reason.Source = EndsWith run ReadFault
 IsWhy run reason.Sink = EndsWith run WriteFault
 IsWhy run (reason.NotOpened why asked) = Asks run asked × Refuses run asked why × (why ≡ open_why.NoMemory → ⊥)

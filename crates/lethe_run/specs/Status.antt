@@ -1,5 +1,5 @@
 -- The ends of a run by cases, and their statuses.
-use Rattle.std.specs.Prelude.{◌≡◌, ◌⊎◌, ℕ, true, false}
+use Rattle.std.specs.Prelude.{◌⊎◌, ℕ, true, false}
 use Rattle.std.specs.Io.KnownBytes.{Appends, Keeps}
 use Rattle.lethe_wire.specs.Causes.{AppendsFront}
 use Rattle.lethe_base.specs.Keys.{Bytes}

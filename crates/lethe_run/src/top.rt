@@ -1,5 +1,5 @@
 //! The top call.
-ghost use Rattle.std.specs.Prelude.{◌≡◌, ◌≤◌, ◌<◌, ◌⊎◌, ℕ, [], Option, None, map, IfErr, IfOk, IfSome, MatchResult, IsErrOf};
+ghost use Rattle.std.specs.Prelude.{◌≡◌, ◌≤◌, ◌<◌, ◌⊎◌, ℕ, [], Option, None, map, take, IfErr, IfOk, IfSome, MatchResult, IsErrOf};
 ghost use Rattle.std.specs.String.{string_bytes};
 ghost use Rattle.lethe_base.specs.Counts.{Rose};
 ghost use Rattle.lethe_base.specs.History.{History, Change};
@@ -17,7 +17,7 @@ ghost use Rattle.lethe_disk.specs.Quiet.{IsQuiet};
 ghost use Rattle.lethe_script.specs.Grammar.{script_of};
 ghost use Rattle.lethe_run.specs.Ends.{Ends};
 ghost use Rattle.lethe_run.specs.Printed.{bad_line, open_line};
-ghost use Rattle.lethe_run.specs.Reasons.{IsReasonOf, IsToldOf, IsWhy, Says};
+ghost use Rattle.lethe_run.specs.Reasons.{IsReasonOf, IsShownOf, IsToldOf, IsWhy, Says};
 ghost use Rattle.lethe_base.specs.Keys.{Bytes};
 
 use crate::front::front_of_line;
@@ -181,6 +181,7 @@ fn carry_out<S: Source, K: Sink, D: Disk>(
 /// Reads the source to its end or past the limit of a script.
 fn read_all<S: Source>(alloc: Global, source: &mut S) -> Result<Vec<u8>, ReadRefused>
     ensures ok { IfOk result (λ bytes. IfSome (S.left source.old) (λ all. script_of all ≡ script_of bytes.items)) }
+    ensures front { IfOk result (λ bytes. IfSome (S.left source.old) (λ all. take 16777216 all ≡ take 16777216 bytes.items)) }
     ensures failed { IsErrOf result ReadRefused.Failed → Rose (S.faults source.old) (S.faults source.new) }
 {
     read_up_to(alloc, source, MAX_SCRIPT)
@@ -224,7 +225,7 @@ fn say<K: Sink>(sink: &mut K, text: &[u8], reason: Reason) -> Reason
 
 /// Says that the bytes are no script.
 fn refuse<K: Sink>(alloc: Global, sink: &mut K, bad: BadLine, bytes: &[u8]) -> Reason
-    ensures { (text : Option Bytes) × IsToldOf (Reason.Line bad text) (bad_line bad) (K.taken sink.old) (K.taken sink.new) (Rose (K.faults sink.old) (K.faults sink.new)) result }
+    ensures { (text : Option Bytes) × IfSome text (IsShownOf bytes.now bad.line) × IsToldOf (Reason.Line bad text) (bad_line bad) (K.taken sink.old) (K.taken sink.new) (Rose (K.faults sink.old) (K.faults sink.new)) result }
 {
     match refusal(alloc, bad) {
         Ok(said) => {

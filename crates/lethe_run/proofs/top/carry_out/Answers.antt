@@ -1,4 +1,4 @@
-use Rattle.std.proofs.Common.{Err, inl, refl, sym, ap, ◌∙◌, subst}
+use Rattle.std.proofs.Common.{◌≡◌, take, IfSome, Err, inl, refl, sym, ap, ◌∙◌, subst}
 use Rattle.std.specs.Prelude.{IsSome}
 use Rattle.lethe_script.specs.Grammar.{script_of}
 use Rattle.lethe_script.specs.Reading.{FailsScript}
@@ -6,6 +6,7 @@ use Rattle.lethe_disk.proofs.Quieting.{quiet_itself}
 use Rattle.lethe_core.specs.View.{view_of}
 use Rattle.lethe_run.specs.Reasons.{IsWhy}
 use Rattle.lethe_run.proofs.Ending.{keeps_still, said_bad_words, said_bad_script, said_not_opened, script_ended, on_script, no_script, drawn_by}
+use Rattle.lethe_run.proofs.Fronts.{shown_all}
 use Rattle.lethe_run.proofs.Holding.{fresh_holds}
 use Rattle.lethe_run.proofs.top.carry_out.Goals as goal
 
@@ -31,7 +32,8 @@ returns-in-Err-Bad g c =
     let fails = subst (λ e. FailsScript e (script_of c.deref.result.now)) c.in-Err-Bad.field-0-is c.in-Err-Bad.ensures.script in
     let told = rw c.in-Err-Bad.bad-is at c.refuse.ensures in
     said_bad_script _ c.refuse.result c.in-Err-Bad.bad told.0
-    (no_script (g.S.Source.left c.args.source.now) c.in-Ok.bytes.items c.in-Err-Bad.bad c.in-Ok.ensures.ok (ap script_of (sym c.deref.ensures.value) ∙ fails), (refl, quiet_itself (g.D.Disk.seen c.args.disk))) told.1 c.in-Some.config (sym c.in-Some.ensures)
+    (shown_all (g.S.Source.left c.args.source.now) told.0 c.deref-in-Err-Bad.result.now c.in-Err-Bad.bad.line (subst (λ bytes. IfSome (g.S.Source.left c.args.source.now) (λ all. take 16777216 all ≡ take 16777216 bytes)) (sym c.deref-in-Err-Bad.ensures.value) c.in-Ok.ensures.front) told.1)
+    (no_script (g.S.Source.left c.args.source.now) c.in-Ok.bytes.items c.in-Err-Bad.bad c.in-Ok.ensures.ok (ap script_of (sym c.deref.ensures.value) ∙ fails), (refl, quiet_itself (g.D.Disk.seen c.args.disk))) told.2 c.in-Some.config (sym c.in-Some.ensures)
 
 pub returns-in-Ok-open_store : goal.returns-in-Ok-open_store
 returns-in-Ok-open_store g c =
