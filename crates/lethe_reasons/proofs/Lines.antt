@@ -1,9 +1,9 @@
 -- What is shown is one line.
-use Rattle.std.proofs.Common.{◌≡◌, ℕ, Bool, true, false, cond, [], ◌∷◌, ◌++◌, length-append, get_or, arith, refl}
+use Rattle.std.proofs.Common.{◌≡◌, ℕ, Bool, true, false, cond, [], ◌∷◌, ◌++◌, length-append, get_or, take, arith, refl, sym, ap, ◌∙◌, append-nil, append_assoc}
 use Rattle.std.proofs.lemmas.List.Elements.{All-map, All-append}
 use Rattle.std.specs.List.{All}
 use Rattle.lethe_base.specs.Keys.{Bytes}
-use Rattle.lethe_reasons.specs.Messages.{IsLine, IsShown, is_control, shown, shown_byte, or_mark}
+use Rattle.lethe_reasons.specs.Messages.{IsLine, Shows, IsShown, is_control, shown, shown_byte, or_mark}
 
 by_test : (b : Bool) (byte : ℕ) → is_control byte ≡ b → is_control (cond b 63 byte) ≡ false
 by_test true byte is = refl
@@ -23,3 +23,9 @@ line_of (byte ∷ more) = record { some = omega arith; shown = all_shown (byte �
 
 pub line_and : (front piece : Bytes) → IsLine front → IsLine (front ++ shown piece)
 line_and front piece line = record { some = omega (arith, length-append front (shown piece), line.some); shown = All-append IsShown front (shown piece) line.shown (all_shown piece) }
+
+pub shows_here : (front given message : Bytes) → message ≡ front ++ shown (take 160 given) → Shows given message
+shows_here front given message is = record { before = front; behind = []; is = is ∙ sym (append-nil (front ++ shown (take 160 given))) }
+
+pub shows_more : (given front more message : Bytes) → Shows given front → message ≡ front ++ more → Shows given message
+shows_more given front more message s is = record { before = s.before; behind = s.behind ++ more; is = is ∙ ap (λ l. l ++ more) s.is ∙ append_assoc (s.before ++ shown (take 160 given)) s.behind more }

@@ -1,4 +1,7 @@
 //! The reasons of a folder that is refused.
+ghost use Rattle.std.specs.Prelude.{IfOk};
+ghost use Rattle.lethe_dirdisk.specs.FileNames.{file_name};
+ghost use Rattle.lethe_reasons.specs.Messages.{Shows};
 
 use crate::message::Message;
 use lethe_base::{Name, NoMemory};
@@ -36,7 +39,10 @@ pub fn folder_refused(alloc: Global, dir: &str, why: &DirRefused) -> Result<Mess
 }
 
 /// The folder holds a used store, of which this is a file, and no gate.
-pub fn gate_missing(alloc: Global, dir: &str, name: Name) -> Result<Message, NoMemory> {
+pub fn gate_missing(alloc: Global, dir: &str, name: Name) -> Result<Message, NoMemory>
+    ensures folder { IfOk result (Shows dir.now) }
+    ensures name { IfOk result (Shows (file_name name)) }
+{
     holds(
         alloc,
         dir,
@@ -45,7 +51,10 @@ pub fn gate_missing(alloc: Global, dir: &str, name: Name) -> Result<Message, NoM
     )
 }
 
-fn holds(alloc: Global, dir: &str, what: &[u8], why: &str) -> Result<Message, NoMemory> {
+fn holds(alloc: Global, dir: &str, what: &[u8], why: &str) -> Result<Message, NoMemory>
+    ensures folder { IfOk result (Shows dir.now) }
+    ensures what { IfOk result (Shows what.now) }
+{
     Message::of(alloc, FOLDER)?
         .show(dir.as_bytes())?
         .and(" holds ")?
@@ -90,13 +99,9 @@ fn step_refused(
     }
 }
 
-fn refused(
-    alloc: Global,
-    what: &str,
-    dir: &str,
-    why: &str,
-    said: &str,
-) -> Result<Message, NoMemory> {
+fn refused(alloc: Global, what: &str, dir: &str, why: &str, said: &str) -> Result<Message, NoMemory>
+    ensures { IfOk result (Shows dir.now) }
+{
     Message::of(alloc, what)?
         .show(dir.as_bytes())?
         .and(why)?

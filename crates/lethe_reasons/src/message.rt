@@ -1,7 +1,8 @@
 //! A reason as one line of text.
 ghost use Rattle.std.specs.Prelude.{◌≡◌, ◌++◌, IfOk, OnOk, codes, take};
 ghost use Rattle.std.specs.String.{string_bytes};
-ghost use Rattle.lethe_reasons.specs.Messages.{shown, shown_byte, status_text, or_mark};
+ghost use Rattle.lethe_reasons.specs.Messages.{shown, shown_byte, status_text, or_mark, Shows};
+ghost use Rattle.lethe_base.specs.Keys.{Bytes};
 
 use lethe_base::NoMemory;
 use std::alloc::Global;
@@ -56,7 +57,8 @@ impl Message {
 
     /// The message with a text at its end.
     pub(crate) fn and(self, text: &str) -> Result<Message, NoMemory>
-        ensures { IfOk result (λ message. message ≡ self ++ shown text.now) }
+        ensures text { IfOk result (λ message. message ≡ self ++ shown text.now) }
+        ensures keeps { (given : Bytes) → Shows given self → IfOk result (Shows given) }
     {
         let Message { mut bytes } = self;
         push_shown(&mut bytes, text.as_bytes())?;
@@ -65,7 +67,9 @@ impl Message {
 
     /// The message with what was given at its end: a word, a path or a name, as far as it is shown.
     pub(crate) fn show(self, given: &[u8]) -> Result<Message, NoMemory>
-        ensures { IfOk result (λ message. message ≡ self ++ shown (take 160 given.now)) }
+        ensures text { IfOk result (λ message. message ≡ self ++ shown (take 160 given.now)) }
+        ensures shows { IfOk result (Shows given.now) }
+        ensures keeps { (other : Bytes) → Shows other self → IfOk result (Shows other) }
     {
         let Message { mut bytes } = self;
         push_shown(&mut bytes, front_of(given))?;

@@ -1,4 +1,7 @@
 //! The reasons of a store that isn't opened.
+ghost use Rattle.std.specs.Prelude.{IfOk};
+ghost use Rattle.lethe_dirdisk.specs.FileNames.{file_name};
+ghost use Rattle.lethe_reasons.specs.Messages.{Shows};
 
 use crate::message::Message;
 use lethe_base::{Fields, Kind, Name, NoMemory, Pick};
@@ -8,7 +11,9 @@ use std::alloc::Global;
 const GUIDE: &str = " (docs/GUIDE.md, When something goes wrong)";
 
 /// An object is missing, cut or changed.
-pub fn damaged(alloc: Global, name: Name) -> Result<Message, NoMemory> {
+pub fn damaged(alloc: Global, name: Name) -> Result<Message, NoMemory>
+    ensures { IfOk result (Shows (file_name name)) }
+{
     let number = name.no;
     let number = format!(in alloc; "{number}")?;
     Message::of(alloc, kind_word(name.kind))?

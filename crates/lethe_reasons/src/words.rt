@@ -1,4 +1,6 @@
 //! The reasons of words that are no command.
+ghost use Rattle.std.specs.Prelude.{IfOk};
+ghost use Rattle.lethe_reasons.specs.Messages.{Shows};
 
 use crate::message::Message;
 use lethe_base::{Config, Field, Fields, NoMemory};
@@ -174,7 +176,9 @@ fn word_told(alloc: Global, word: &str, why: &str) -> Result<Message, NoMemory> 
     Message::of_given(alloc, word.as_bytes())?.and(why)
 }
 
-fn number_told(alloc: Global, field: Field, value: &str) -> Result<Message, NoMemory> {
+fn number_told(alloc: Global, field: Field, value: &str) -> Result<Message, NoMemory>
+    ensures { IfOk result (Shows value.now) }
+{
     let option = option_of(field);
     let least = field.least();
     let greatest = field.greatest();
