@@ -1,9 +1,12 @@
 //! `lethe DIR run`: carries out the script on standard input, over the store that is kept in the folder DIR.
 #![tactic(auto)]
 
-use lethe_dirdisk::{DirDisk, DirRefused, first_stray};
+mod cause;
+
+use cause::{Cause, explain};
+use lethe_dirdisk::{DirDisk, DirRefused, OpenStep, first_stray};
 use lethe_disk::{Disk, DiskRefused};
-use lethe_run::{are_words, run};
+use lethe_run::{are_words, run_told};
 use lethe_wire::{Sink, StdSink, StdSource, write_all};
 use std::env;
 use std::io::{self, ErrorKind};
@@ -23,44 +26,65 @@ const BAD_FOLDER: u8 = 10;
 
 fn main(rt: HostRuntime) -> ExitCode {
     let status = match words_of(&rt) {
-        Ok(words) => status_of(&rt, &words),
-        Err(error) if error.kind() == ErrorKind::OutOfMemory => NO_MEMORY,
+        Ok(words) => {
+            let (status, cause) = end_of(&rt, &words);
+            explain(&rt, &words, status, &cause);
+            status
+        }
+        Err(error) if error.kind() == ErrorKind::OutOfMemory => {
+            explain(&rt, &[], NO_MEMORY, &Cause::NoMemory);
+            NO_MEMORY
+        }
         // A word that is no text is no word of a command.
-        Err(_) => status_of(&rt, &[]),
+        Err(_) => {
+            let mut sink = StdSink::new(io::writer(&rt));
+            let status = say(&mut sink, b"bad words\n", BAD_WORDS);
+            explain(&rt, &[], status, &Cause::NoText);
+            status
+        }
     };
     ExitCode::from(status)
 }
 
-/// Runs the words behind DIR over the disk of that folder, and answers the status.
-fn status_of(rt: &HostRuntime, words: &[String]) -> u8 {
+/// Runs the words behind DIR over the disk of that folder, and answers the status and its cause.
+fn end_of(rt: &HostRuntime, words: &[String]) -> (u8, Cause) {
     let alloc = rt.alloc();
     let mut sink = StdSink::new(io::writer(rt));
     let [dir, words @ ..] = words else {
-        return say(&mut sink, b"bad words\n", BAD_WORDS);
+        return (say(&mut sink, b"bad words\n", BAD_WORDS), Cause::Words);
     };
     // Where the words are refused no folder is made or touched.
     if !are_words(words) {
-        return say(&mut sink, b"bad words\n", BAD_WORDS);
+        return (say(&mut sink, b"bad words\n", BAD_WORDS), Cause::Words);
     }
     match open_folder(rt, dir) {
         Ok(disk) => {
             let mut source = StdSource::new(rt.reader());
-            run(alloc, words, &mut source, &mut sink, disk).status
+            let told = run_told(alloc, words, &mut source, &mut sink, disk);
+            (told.status, Cause::Run(told.reason))
         }
-        Err(DirRefused::NoMemory) => NO_MEMORY,
-        Err(DirRefused::Foreign | DirRefused::Folder) => {
-            say(&mut sink, b"bad folder\n", BAD_FOLDER)
-        }
+        Err(Cause::NoMemory) => (NO_MEMORY, Cause::NoMemory),
+        Err(cause) => (say(&mut sink, b"bad folder\n", BAD_FOLDER), cause),
     }
 }
 
 /// The disk of a folder. One in which a used store lies without its gate is refused: an opening would take it for a new store, and remove all.
-fn open_folder(rt: &HostRuntime, dir: &str) -> Result<DirDisk, DirRefused> {
-    let mut disk = DirDisk::open(rt, rt.alloc(), dir)?;
+fn open_folder(rt: &HostRuntime, dir: &str) -> Result<DirDisk, Cause> {
+    let mut disk = match DirDisk::open(rt, rt.alloc(), dir) {
+        Ok(disk) => disk,
+        Err(DirRefused::NoMemory) => return Err(Cause::NoMemory),
+        Err(why) => return Err(Cause::Folder(why)),
+    };
     match disk.names(rt.alloc()) {
-        Ok(names) if first_stray(&names).is_none() => Ok(disk),
-        Err(DiskRefused::NoMemory) => Err(DirRefused::NoMemory),
-        Ok(_) | Err(DiskRefused::Failed) => Err(DirRefused::Folder),
+        Ok(names) => match first_stray(&names) {
+            Some(name) => Err(Cause::NoGate(name)),
+            None => Ok(disk),
+        },
+        Err(DiskRefused::NoMemory) => Err(Cause::NoMemory),
+        Err(DiskRefused::Failed) => Err(Cause::Folder(DirRefused::Folder {
+            step: OpenStep::List,
+            error: ErrorKind::Other.into(),
+        })),
     }
 }
 

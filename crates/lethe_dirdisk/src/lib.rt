@@ -17,6 +17,6 @@ mod stray;
 pub use disk::DirDisk;
 pub use file_name::{read_file_name, spell_file_name};
 pub use laws::one_file_name;
-pub use opening::DirRefused;
 pub use page::{DirPage, DirPort};
+pub use refusal::{DirRefused, OpenStep};
 pub use stray::first_stray;

@@ -3,40 +3,19 @@ ghost use Rattle.std.specs.Prelude.{◌≡◌, ◌↔◌, IfOk, IsOk, IsErrOf};
 ghost use Rattle.std.specs.Fs.{file_type, IsDir, IsFile};
 
 use crate::disk::DirDisk;
+use crate::file_name::spell_file_name;
 use crate::folder::Folder;
 use crate::place::Place;
-use crate::refusal::is_no_memory;
+use crate::refusal::{DirRefused, OpenStep};
 use lethe_base::Name;
-use std::alloc::{AllocError, Global};
+use std::alloc::Global;
 use std::fs::Metadata;
-use std::io;
 
-/// Why a folder couldn't be opened. Nothing in it was changed.
+/// What stands under the name of an object's file, where it is no file.
 #[derive(Clone, Copy, Debug, PartialEq, Eq)]
-pub enum DirRefused {
-    /// It has a name that is none of an object's file, or a folder under the name of one.
-    Foreign,
-    /// It couldn't be made, listed or held: it is no folder, the system refused, or another process holds it. Or something
-    /// stands under the name of an object's file that is neither a file nor a folder, as a link or a pipe.
+enum Unfit {
     Folder,
-    /// There was no memory.
-    NoMemory,
-}
-
-impl From<AllocError> for DirRefused {
-    fn from(_: AllocError) -> Self {
-        DirRefused::NoMemory
-    }
-}
-
-impl From<io::Error> for DirRefused {
-    fn from(error: io::Error) -> Self {
-        if is_no_memory(&error) {
-            DirRefused::NoMemory
-        } else {
-            DirRefused::Folder
-        }
-    }
+    Other,
 }
 
 impl DirDisk {
@@ -45,37 +24,60 @@ impl DirDisk {
         ensures { IfOk result (λ disk. disk ≡ 0) }
     {
         let mut place = Place::open(rt, alloc, path)?;
-        place.lock()?;
-        let listing = place.list(alloc)?;
+        place
+            .lock()
+            .map_err(|error| DirRefused::of(OpenStep::Lock, error))?;
+        let listing = place
+            .list(alloc)
+            .map_err(|error| DirRefused::of(OpenStep::List, error))?;
         if listing.has_foreign {
-            return Err(DirRefused::Foreign);
+            return Err(DirRefused::Foreign {
+                name: listing.foreign,
+            });
         }
-        look_at_all(&mut place, &listing.names)?;
+        look_at_all(alloc, &mut place, &listing.names)?;
         // The folder may be new, also where another process made it, and may have got another name.
-        place.sync_own_name()?;
+        place
+            .sync_own_name()
+            .map_err(|error| DirRefused::of(OpenStep::SyncParent, error))?;
         Ok(DirDisk::of(Folder::new(place, listing.names)?))
     }
 }
 
 // Looks that nothing but files stands under these names.
-fn look_at_all(place: &mut Place, names: &[Name]) -> Result<(), DirRefused> {
+fn look_at_all(alloc: Global, place: &mut Place, names: &[Name]) -> Result<(), DirRefused> {
     for name in names {
-        let seen = place.look(*name)?;
-        judge(&seen)?;
+        let name = *name;
+        let seen = place
+            .look(name)
+            .map_err(|error| DirRefused::of(OpenStep::Look { name }, error))?;
+        if let Err(unfit) = judge(&seen) {
+            return Err(unfit_of(alloc, name, unfit));
+        }
     }
     Ok(())
 }
 
 // What stands under the name of an object's file has to be one.
-fn judge(seen: &Metadata) -> Result<(), DirRefused>
+fn judge(seen: &Metadata) -> Result<(), Unfit>
     ensures file { IsOk result ↔ IsFile (file_type seen.now) }
-    ensures folder { IsErrOf result DirRefused.Foreign ↔ IsDir (file_type seen.now) }
+    ensures folder { IsErrOf result Unfit.Folder ↔ IsDir (file_type seen.now) }
 {
     if seen.is_file() {
         Ok(())
     } else if seen.is_dir() {
-        Err(DirRefused::Foreign)
+        Err(Unfit::Folder)
     } else {
-        Err(DirRefused::Folder)
+        Err(Unfit::Other)
+    }
+}
+
+// A folder under such a name is as foreign as any other name.
+fn unfit_of(alloc: Global, name: Name, unfit: Unfit) -> DirRefused {
+    match unfit {
+        Unfit::Folder => DirRefused::Foreign {
+            name: Vec::from_slice(alloc, &spell_file_name(name)).ok(),
+        },
+        Unfit::Other => DirRefused::NoFile { name },
     }
 }

@@ -5,6 +5,7 @@ ghost use Rattle.lethe_dirdisk.specs.Lengths.{longest};
 use crate::length::{longest_of, read_front};
 use crate::listing::Listing;
 use crate::path::FolderPath;
+use crate::refusal::{DirRefused, OpenStep};
 use lethe_base::Name;
 use std::alloc::Global;
 use std::fs::{self, DirBuilder, File, Metadata, OpenOptions};
@@ -31,14 +32,16 @@ pub struct Place {
 
 impl Place {
     /// The folder of a path. It is made where it is missing.
-    pub fn open(rt: &HostRuntime, alloc: Global, path: &str) -> io::Result<Place> {
+    pub fn open(rt: &HostRuntime, alloc: Global, path: &str) -> Result<Place, DirRefused> {
         let path = FolderPath::new(alloc, path)?;
         match DirBuilder::new()
             .mode(FOLDER_MODE)
             .create(rt, path.folder())
         {
-            Err(error) if error.kind() != ErrorKind::AlreadyExists => Err(error),
-            _ => Place::at(rt, alloc, path),
+            Err(error) if error.kind() != ErrorKind::AlreadyExists => {
+                Err(DirRefused::of(OpenStep::Make, error))
+            }
+            _ => Place::at(rt, alloc, path).map_err(|error| DirRefused::of(OpenStep::Open, error)),
         }
     }
 

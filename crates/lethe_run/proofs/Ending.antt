@@ -32,7 +32,10 @@ use Rattle.lethe_run.specs.Printed.{bad_words, bad_line, open_line}
 use Rattle.lethe_run.specs.Scripts.{All, IsToldFrom, ScriptEnds, Serves}
 use Rattle.lethe_run.specs.Serving.{IsOn, IsCarried, Point}
 use Rattle.lethe_run.specs.Slots.{no_slots}
-use Rattle.lethe_run.specs.Status.{EndsWith, Says, IsToldOf, status_for}
+use Rattle.lethe_run.specs.Reasons.{IsShownOf, IsToldOf, IsWhy, Says, after_script, status_of}
+use Rattle.lethe_run.specs.Status.{EndsWith, status_for}
+use Rattle.lethe_run.specs.declared.reason.Reason.{Reason}
+use Rattle.lethe_run.specs.declared.reason.Reason.TheVariants as reason
 use Rattle.lethe_run.specs.Transcript.{Start, text_of}
 use Rattle.lethe_run.proofs.Anywhere.{stands_so, through_wider}
 
@@ -84,14 +87,14 @@ keeps_still (Some bytes) = refl
 is_command : (run : Run) (config : Fields) → Asks run config → IsCommand run
 is_command run config asks = subst IsSome (sym asks) refl
 
-pub said_bad_words : (run : Run) (end : Status) → IsNoCommand run → IsUnused run → Says BadWords bad_words run.taken_before run.taken run.SinkRose end → EndsWith run end
-said_bad_words run end other unused (inl says) = subst (EndsWith run) (sym says.0) (other, says.1, unused)
-said_bad_words run end other unused (inr says) = subst (EndsWith run) (sym says.0) (says.1, bad_words, inl (other, refl, unused), says.2)
+pub said_bad_words : (run : Run) (end : Reason) → IsNoCommand run → IsUnused run → Says reason.Words bad_words run.taken_before run.taken run.SinkRose end → IsWhy run end
+said_bad_words run end other unused (inl says) = subst (IsWhy run) (sym says.0) (other, says.1, unused)
+said_bad_words run end other unused (inr says) = subst (IsWhy run) (sym says.0) (says.1, bad_words, inl (other, refl, unused), says.2)
 
-pub said_bad_script : (run : Run) (end : Status) (bad : BadLine) → IsNoScript run bad → IsToldOf BadScript (bad_line bad) run.taken_before run.taken run.SinkRose end → (config : Fields) → Asks run config → EndsWith run end
-said_bad_script run end bad none (inl (inl says)) config asks = subst (EndsWith run) (sym says.0) (is_command run config asks, bad, none, says.1)
-said_bad_script run end bad none (inl (inr says)) config asks = subst (EndsWith run) (sym says.0) (says.1, bad_line bad, inr (inl (is_command run config asks, bad, none, refl)), says.2)
-said_bad_script run end bad none (inr silent) config asks = subst (EndsWith run) (sym silent.0) (config, asks, inl (silent.1, inl none.1))
+pub said_bad_script : (run : Run) (end : Reason) (bad : BadLine) (text : Option Bytes) → IfSome text (λ front. IfSome run.source (λ bytes. IsShownOf bytes bad.line front)) → IsNoScript run bad → IsToldOf (reason.Line bad text) (bad_line bad) run.taken_before run.taken run.SinkRose end → (config : Fields) → Asks run config → IsWhy run end
+said_bad_script run end bad text shown none (inl (inl says)) config asks = subst (IsWhy run) (sym says.0) (is_command run config asks, none, says.1, shown)
+said_bad_script run end bad text shown none (inl (inr says)) config asks = subst (IsWhy run) (sym says.0) (says.1, bad_line bad, inr (inl (is_command run config asks, bad, none, refl)), says.2)
+said_bad_script run end bad text shown none (inr silent) config asks = subst (IsWhy run) (sym silent.0) (config, asks, inl (silent.1, inl none.1))
 
 -- A store that wasn't opened
 
@@ -122,10 +125,26 @@ told_by run open_why.NoMemory config asks not written = (config, asks, inl (keep
     keeps (Some xs) None a = absurd a
     keeps (Some xs) (Some ys) a = a ∙ append-nil xs
 
-pub said_not_opened : (run : Run) (end : Status) (why : OpenWhy) (config : Fields) → Asks run config → IsNotOpened run config why → IsToldOf (status_for why) (open_line config why) run.taken_before run.taken run.SinkRose end → EndsWith run end
-said_not_opened run end why config asks not (inl (inl says)) = subst (EndsWith run) (sym says.0) (told_by run why config asks not says.1)
-said_not_opened run end why config asks not (inl (inr says)) = subst (EndsWith run) (sym says.0) (says.1, open_line config why, inr (inr (inl (config, asks, why, not, refl))), says.2)
-said_not_opened run end why config asks not (inr silent) = subst (EndsWith run) (sym silent.0) (config, asks, inl (silent.1, inr (no_memory_why run config why not)))
+-- a reason that isn't want of memory
+not_memory : (why : OpenWhy) (config : Fields) (end : Reason) → (why ≡ open_why.NoMemory → end ≡ reason.NoMemory) → end ≡ reason.NotOpened why config → why ≡ open_why.NoMemory → ⊥
+not_memory why config end memory is none = let silent = memory none in cc
+
+pub said_not_opened : (run : Run) (end : Reason) (why : OpenWhy) (config : Fields) → Asks run config → IsNotOpened run config why → IsToldOf (reason.NotOpened why config) (open_line config why) run.taken_before run.taken run.SinkRose end
+    → (why ≡ open_why.NoMemory → end ≡ reason.NoMemory) → IsWhy run end
+said_not_opened run end why config asks not (inl (inl says)) memory = subst (IsWhy run) (sym says.0) (asks, (not, says.1), not_memory why config end memory says.0)
+said_not_opened run end why config asks not (inl (inr says)) memory = subst (IsWhy run) (sym says.0) (says.1, open_line config why, inr (inr (inl (config, asks, why, not, refl))), says.2)
+said_not_opened run end why config asks not (inr silent) memory = subst (IsWhy run) (sym silent.0) (config, asks, inl (silent.1, inr (no_memory_why run config why not)))
+
+-- each reason has its end
+pub ends_so : (run : Run) (why : Reason) → IsWhy run why → EndsWith run (status_of why)
+ends_so run reason.Nothing e = e
+ends_so run reason.Words e = e
+ends_so run (reason.Line bad text) e = (e.0, bad, e.1, e.2)
+ends_so run reason.Source e = e
+ends_so run reason.Sink e = e
+ends_so run (reason.NotOpened why asked) e = told_by run why asked e.0 e.1.0 e.1.1
+ends_so run reason.NoMemory e = e
+ends_so run reason.Answer e = (e.0, e.1, inl e.2)
 
 -- A script that was carried out
 
@@ -207,9 +226,9 @@ module _ (run : Run) (config : Fields) (asks : Asks run config) (phases : List (
   all : (refused : Bool) → All run.Tells run.PortsFail mid run.finish run.faults run.taken_before run.taken phases refused → ends.Answered run config refused
   all refused a = record { lines = a.lines; script = script (λ p. Carries run config p a.lines) (carries phases a.lines a.told a.served); written = a.written; is = a.is; sound = sound }
 
-  pub script_ended : (status : Status) → ScriptEnds run.Tells run.PortsFail mid run.finish run.faults run.taken_before run.taken run.SinkRose phases status → EndsWith run status
+  pub script_ended : (status : Status) → ScriptEnds run.Tells run.PortsFail mid run.finish run.faults run.taken_before run.taken run.SinkRose phases status → IsWhy run (after_script status)
   script_ended Answered e = (config, asks, all false e)
-  script_ended Refused e = (config, asks, inl (all true e))
+  script_ended Refused e = (config, asks, all true e)
   script_ended WriteFault e = (
     e.0,
     text_of e.1.lines,

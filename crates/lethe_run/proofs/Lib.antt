@@ -23,3 +23,4 @@ pub mod Ending
 pub mod Calm
 pub mod Parts
 pub mod Named
+pub mod Fronts

@@ -5,6 +5,7 @@ pub mod Anywhere
 pub mod Carried
 pub mod Ends
 pub mod Status
+pub mod Reasons
 pub mod Scans
 pub mod Asked
 pub mod Replies

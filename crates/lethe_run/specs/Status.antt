@@ -1,5 +1,5 @@
 -- The ends of a run by cases, and their statuses.
-use Rattle.std.specs.Prelude.{◌≡◌, ◌⊎◌, ℕ, true, false, Option}
+use Rattle.std.specs.Prelude.{◌⊎◌, ℕ, true, false}
 use Rattle.std.specs.Io.KnownBytes.{Appends, Keeps}
 use Rattle.lethe_wire.specs.Causes.{AppendsFront}
 use Rattle.lethe_base.specs.Keys.{Bytes}
@@ -44,11 +44,3 @@ status_for (open_why.OtherConfig kept) = OtherConfig
 status_for (open_why.Fault before after) = Refused
 status_for (open_why.Exhausted last) = Refused
 status_for open_why.NoMemory = NoMemory
-
--- the text was written and the end is this one, or the sink failed behind a front of it
-abbrev pub Says : Status → Bytes → Option Bytes → Option Bytes → Type 0 → Status → Type 0
-Says status text old new SinkRose end = ((end ≡ status) × Appends old new text) ⊎ ((end ≡ WriteFault) × SinkRose × AppendsFront old new text)
-
--- so it is, or there was no memory for the text
-abbrev pub IsToldOf : Status → Bytes → Option Bytes → Option Bytes → Type 0 → Status → Type 0
-IsToldOf status text old new SinkRose end = Says status text old new SinkRose end ⊎ ((end ≡ NoMemory) × Keeps old new)

@@ -2,9 +2,11 @@
 #![tactic(auto)]
 
 mod answer;
+mod front;
 mod laws;
 mod pinning;
 mod print;
+mod reason;
 mod reply;
 mod row;
 mod script;
@@ -15,5 +17,6 @@ mod top;
 mod words;
 
 pub use laws::one_scan;
-pub use top::{Ended, run};
+pub use reason::Reason;
+pub use top::{Ended, Told, run, run_told};
 pub use words::are_words;

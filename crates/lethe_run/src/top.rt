@@ -1,5 +1,5 @@
 //! The top call.
-ghost use Rattle.std.specs.Prelude.{◌≡◌, ◌≤◌, ◌<◌, ◌⊎◌, ℕ, [], Option, None, map, IfErr, IfOk, IfSome, MatchResult, IsErrOf};
+ghost use Rattle.std.specs.Prelude.{◌≡◌, ◌≤◌, ◌<◌, ◌⊎◌, ℕ, [], Option, None, map, take, IfErr, IfOk, IfSome, MatchResult, IsErrOf};
 ghost use Rattle.std.specs.String.{string_bytes};
 ghost use Rattle.lethe_base.specs.Counts.{Rose};
 ghost use Rattle.lethe_base.specs.History.{History, Change};
@@ -17,11 +17,13 @@ ghost use Rattle.lethe_disk.specs.Quiet.{IsQuiet};
 ghost use Rattle.lethe_script.specs.Grammar.{script_of};
 ghost use Rattle.lethe_run.specs.Ends.{Ends};
 ghost use Rattle.lethe_run.specs.Printed.{bad_line, open_line};
-ghost use Rattle.lethe_run.specs.Status.{EndsWith, Says, IsToldOf, status_for};
+ghost use Rattle.lethe_run.specs.Reasons.{IsReasonOf, IsShownOf, IsToldOf, IsWhy, Says};
+ghost use Rattle.lethe_base.specs.Keys.{Bytes};
 
+use crate::front::front_of_line;
 use crate::print::{open_refusal, refusal};
+use crate::reason::Reason;
 use crate::script::serve_script;
-use crate::status::Status;
 use crate::words::config_of;
 use lethe_base::{Config, NoMemory};
 use lethe_disk::Disk;
@@ -36,6 +38,15 @@ use std::alloc::Global;
 pub struct Ended<D: Disk> {
     /// From 0 to 9; there is no 1.
     pub status: u8,
+    pub disk: D,
+}
+
+/// How a run ended and why, and the disk that it was given.
+#[derive(Drop)]
+pub struct Told<D: Disk> {
+    /// From 0 to 9; there is no 1.
+    pub status: u8,
+    pub reason: Reason,
     pub disk: D,
 }
 
@@ -68,9 +79,56 @@ pub fn run<S: Source, K: Sink, D: Disk>(
       Unused = result.disk ≡ disk;
     }) result.status }
 {
-    let (status, disk) = carry_out(alloc, words, source, sink, disk);
+    let told = run_told(alloc, words, source, sink, disk);
     Ended {
-        status: status.code(),
+        status: told.status,
+        disk: told.disk,
+    }
+}
+
+/// `run`, which hands back the reason of its end as well.
+pub fn run_told<S: Source, K: Sink, D: Disk>(
+    alloc: Global,
+    words: &[String],
+    source: &mut S,
+    sink: &mut K,
+    disk: D,
+) -> Told<D>
+    ensures ends { Ends (record {
+      words = map string_bytes words.now;
+      source = S.left source.old;
+      taken_before = K.taken sink.old;
+      taken = K.taken sink.new;
+      SourceRose = Rose (S.faults source.old) (S.faults source.new);
+      SinkRose = Rose (K.faults sink.old) (K.faults sink.new);
+      Tells = D.tells;
+      start = D.seen disk;
+      finish = D.seen result.disk;
+      faults_before = D.faults disk;
+      faults = D.faults result.disk;
+      PortsFail = D.ports_fail;
+      Unused = result.disk ≡ disk;
+    }) result.status }
+    ensures reason { IsReasonOf (record {
+      words = map string_bytes words.now;
+      source = S.left source.old;
+      taken_before = K.taken sink.old;
+      taken = K.taken sink.new;
+      SourceRose = Rose (S.faults source.old) (S.faults source.new);
+      SinkRose = Rose (K.faults sink.old) (K.faults sink.new);
+      Tells = D.tells;
+      start = D.seen disk;
+      finish = D.seen result.disk;
+      faults_before = D.faults disk;
+      faults = D.faults result.disk;
+      PortsFail = D.ports_fail;
+      Unused = result.disk ≡ disk;
+    }) result.status result.reason }
+{
+    let (reason, disk) = carry_out(alloc, words, source, sink, disk);
+    Told {
+        status: reason.status().code(),
+        reason,
         disk,
     }
 }
@@ -81,8 +139,8 @@ fn carry_out<S: Source, K: Sink, D: Disk>(
     source: &mut S,
     sink: &mut K,
     disk: D,
-) -> (Status, D)
-    ensures { EndsWith (record {
+) -> (Reason, D)
+    ensures { IsWhy (record {
       words = map string_bytes words.now;
       source = S.left source.old;
       taken_before = K.taken sink.old;
@@ -99,27 +157,31 @@ fn carry_out<S: Source, K: Sink, D: Disk>(
     }) result.0 }
 {
     let Some(config) = config_of(words) else {
-        return (say(sink, b"bad words\n", Status::BadWords), disk);
+        return (say(sink, b"bad words\n", Reason::Words), disk);
     };
     let bytes = match read_all(alloc, source) {
         Ok(bytes) => bytes,
-        Err(ReadRefused::Failed) => return (Status::ReadFault, disk),
-        Err(ReadRefused::NoMemory) => return (Status::NoMemory, disk),
+        Err(ReadRefused::Failed) => return (Reason::Source, disk),
+        Err(ReadRefused::NoMemory) => return (Reason::NoMemory, disk),
     };
     let script = match read_script(alloc, &bytes) {
         Ok(script) => script,
-        Err(ScriptRefused::Bad(bad)) => return (refuse(alloc, sink, bad), disk),
-        Err(ScriptRefused::NoMemory) => return (Status::NoMemory, disk),
+        Err(ScriptRefused::Bad(bad)) => return (refuse(alloc, sink, bad, &bytes), disk),
+        Err(ScriptRefused::NoMemory) => return (Reason::NoMemory, disk),
     };
     match open_store(alloc, disk, &config) {
-        Ok(engine) => serve_script(alloc, sink, script.phases, engine),
-        Err(OpenRefused { disk, why }) => (tell(alloc, sink, &config, &why), disk),
+        Ok(engine) => {
+            let (status, disk) = serve_script(alloc, sink, script.phases, engine);
+            (Reason::of_script(status), disk)
+        }
+        Err(OpenRefused { disk, why }) => (tell(alloc, sink, config, why), disk),
     }
 }
 
 /// Reads the source to its end or past the limit of a script.
 fn read_all<S: Source>(alloc: Global, source: &mut S) -> Result<Vec<u8>, ReadRefused>
     ensures ok { IfOk result (λ bytes. IfSome (S.left source.old) (λ all. script_of all ≡ script_of bytes.items)) }
+    ensures front { IfOk result (λ bytes. IfSome (S.left source.old) (λ all. take 16777216 all ≡ take 16777216 bytes.items)) }
     ensures failed { IsErrOf result ReadRefused.Failed → Rose (S.faults source.old) (S.faults source.new) }
 {
     read_up_to(alloc, source, MAX_SCRIPT)
@@ -151,35 +213,39 @@ fn open_store<D: Disk>(alloc: Global, disk: D, config: &Config) -> Result<Engine
     Engine::open(alloc, disk, config)
 }
 
-/// Writes a text, and answers this status, or that the sink failed.
-fn say<K: Sink>(sink: &mut K, text: &[u8], status: Status) -> Status
-    ensures { Says status text.now (K.taken sink.old) (K.taken sink.new) (Rose (K.faults sink.old) (K.faults sink.new)) result }
+/// Writes a text, and answers this reason, or that the sink failed.
+fn say<K: Sink>(sink: &mut K, text: &[u8], reason: Reason) -> Reason
+    ensures { Says reason text.now (K.taken sink.old) (K.taken sink.new) (Rose (K.faults sink.old) (K.faults sink.new)) result }
 {
     match write_all(sink, text) {
-        Ok(()) => status,
-        Err(_) => Status::WriteFault,
+        Ok(()) => reason,
+        Err(_) => Reason::Sink,
     }
 }
 
 /// Says that the bytes are no script.
-fn refuse<K: Sink>(alloc: Global, sink: &mut K, bad: BadLine) -> Status
-    ensures { IsToldOf Status.BadScript (bad_line bad) (K.taken sink.old) (K.taken sink.new) (Rose (K.faults sink.old) (K.faults sink.new)) result }
+fn refuse<K: Sink>(alloc: Global, sink: &mut K, bad: BadLine, bytes: &[u8]) -> Reason
+    ensures { (text : Option Bytes) × IfSome text (IsShownOf bytes.now bad.line) × IsToldOf (Reason.Line bad text) (bad_line bad) (K.taken sink.old) (K.taken sink.new) (Rose (K.faults sink.old) (K.faults sink.new)) result }
 {
     match refusal(alloc, bad) {
-        Ok(text) => say(sink, text.as_bytes(), Status::BadScript),
-        Err(NoMemory) => Status::NoMemory,
+        Ok(said) => {
+            let text = front_of_line(alloc, bytes, bad.line);
+            say(sink, said.as_bytes(), Reason::Line { bad, text })
+        }
+        Err(NoMemory) => Reason::NoMemory,
     }
 }
 
 /// Says why the store of the configuration wasn't opened.
-fn tell<K: Sink>(alloc: Global, sink: &mut K, config: &Config, why: &OpenWhy) -> Status
-    ensures { IsToldOf (status_for why.now) (open_line config.now why.now) (K.taken sink.old) (K.taken sink.new) (Rose (K.faults sink.old) (K.faults sink.new)) result }
+fn tell<K: Sink>(alloc: Global, sink: &mut K, asked: Config, why: OpenWhy) -> Reason
+    ensures told { IsToldOf (Reason.NotOpened why asked) (open_line asked why) (K.taken sink.old) (K.taken sink.new) (Rose (K.faults sink.old) (K.faults sink.new)) result }
+    ensures memory { why ≡ OpenWhy.NoMemory → result ≡ Reason.NoMemory }
 {
     if let OpenWhy::NoMemory = why {
-        return Status::NoMemory;
+        return Reason::NoMemory;
     }
-    match open_refusal(alloc, config.fields(), why) {
-        Ok(text) => say(sink, text.as_bytes(), Status::of_opening(why)),
-        Err(NoMemory) => Status::NoMemory,
+    match open_refusal(alloc, asked.fields(), &why) {
+        Ok(text) => say(sink, text.as_bytes(), Reason::NotOpened { why, asked }),
+        Err(NoMemory) => Reason::NoMemory,
     }
 }

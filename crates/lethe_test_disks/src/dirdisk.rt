@@ -2,7 +2,9 @@
 
 use crate::common::{fails, gives};
 use lethe_base::{Kind, Name};
-use lethe_dirdisk::{DirDisk, DirPage, DirRefused, one_file_name, read_file_name, spell_file_name};
+use lethe_dirdisk::{
+    DirDisk, DirPage, DirRefused, OpenStep, one_file_name, read_file_name, spell_file_name,
+};
 use lethe_disk::Disk;
 use std::alloc::Global;
 use std::os::unix::fs::symlink;
@@ -188,10 +190,18 @@ fn refused(rt: &HostRuntime, path: &str) -> Option<DirRefused> {
     DirDisk::open(rt, rt.alloc(), path).err()
 }
 
+// A foreign name is told, which is the end of this path.
+fn is_foreign(why: Option<DirRefused>, path: &str) -> bool {
+    match why {
+        Some(DirRefused::Foreign { name: Some(name) }) => path.as_bytes().ends_with(&name),
+        _ => false,
+    }
+}
+
 // Whether a folder is refused for a file that keeps its bytes, and no more once that is gone.
 fn refuses_foreign(rt: &HostRuntime, folder: &str, foreign: &str) -> bool {
     is_done(fs::write(rt, foreign, b"kept".as_slice()))
-        && refused(rt, folder) == Some(DirRefused::Foreign)
+        && is_foreign(refused(rt, folder), foreign)
         && has_bytes(rt, foreign, b"kept")
         && is_done(fs::remove_file(rt, foreign))
         && refused(rt, folder).is_none()
@@ -221,7 +231,13 @@ fn is_held(rt: &HostRuntime, folder: &str) -> bool {
     match DirDisk::open(rt, rt.alloc(), folder) {
         Ok(mut disk) => {
             disk.create(name(Kind::Page, 1), b"abc").is_ok()
-                && refused(rt, folder) == Some(DirRefused::Folder)
+                && matches!(
+                    refused(rt, folder),
+                    Some(DirRefused::Folder {
+                        step: OpenStep::Lock,
+                        ..
+                    })
+                )
         }
         Err(_) => false,
     }
@@ -240,7 +256,10 @@ fn a_folder_is_held_by_one(rt: HostRuntime) {
     clear(&rt, FOLDER);
     assert!(rt; is_held(&rt, FOLDER) && refused(&rt, FOLDER).is_none());
     for path in NO_FOLDERS {
-        assert!(rt; refused(&rt, path) == Some(DirRefused::Folder));
+        assert!(rt;
+            matches!(refused(&rt, path), Some(DirRefused::Folder { .. })),
+            "{path}"
+        );
     }
     clear(&rt, FOLDER);
 }

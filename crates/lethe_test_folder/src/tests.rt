@@ -1,5 +1,5 @@
 use lethe_base::{Kind, Name};
-use lethe_dirdisk::{DirDisk, DirPage, DirPort, DirRefused};
+use lethe_dirdisk::{DirDisk, DirPage, DirPort, DirRefused, OpenStep, spell_file_name};
 use lethe_disk::{Disk, DiskRefused};
 use std::alloc::Global;
 use std::fs::{self, File, Permissions};
@@ -47,6 +47,22 @@ fn has_bytes(rt: &HostRuntime, path: &str, bytes: &[u8]) -> bool {
 // Why a folder isn't opened.
 fn refused(rt: &HostRuntime, path: &str) -> Option<DirRefused> {
     DirDisk::open(rt, rt.alloc(), path).err()
+}
+
+// What stands under an object's name is no file, and this is the object.
+fn is_no_file(why: Option<DirRefused>, object: &str) -> bool {
+    match why {
+        Some(DirRefused::NoFile { name }) => object.as_bytes().ends_with(&spell_file_name(name)),
+        _ => false,
+    }
+}
+
+// A foreign name is told, which is the end of this path.
+fn is_foreign(why: Option<DirRefused>, path: &str) -> bool {
+    match why {
+        Some(DirRefused::Foreign { name: Some(name) }) => path.as_bytes().ends_with(&name),
+        _ => false,
+    }
 }
 
 // Makes the pages 1 and 2, and answers whether that was done.
@@ -116,7 +132,7 @@ fn is_folder(rt: &HostRuntime, path: &str) -> bool {
 // Whether a folder is refused where a link stands for an object, and the link stays.
 fn link_is_refused(rt: &HostRuntime, folder: &str, object: &str, target: &str) -> bool {
     is_done(symlink(rt, target, object))
-        && refused(rt, folder) == Some(DirRefused::Folder)
+        && is_no_file(refused(rt, folder), object)
         && is_link(rt, object)
         && is_done(fs::remove_file(rt, object))
 }
@@ -124,7 +140,7 @@ fn link_is_refused(rt: &HostRuntime, folder: &str, object: &str, target: &str) -
 // Whether a folder is refused where a folder stands for an object, and that one stays.
 fn folder_is_refused(rt: &HostRuntime, folder: &str, object: &str) -> bool {
     is_done(fs::create_dir(rt, object))
-        && refused(rt, folder) == Some(DirRefused::Foreign)
+        && is_foreign(refused(rt, folder), object)
         && is_folder(rt, object)
 }
 
@@ -247,7 +263,15 @@ fn a_folder_is_the_same_behind_a_rename(rt: HostRuntime) -> Result<(), Fail> {
     let mut reader = Reader::of(alloc, &mut disk)?;
     // Another folder takes the name, with other files.
     assert!(rt; is_done(fs::rename(&rt, FOLDER, MOVED)) && make_other(&rt, FOLDER));
-    assert!(rt; refused(&rt, MOVED) == Some(DirRefused::Folder));
+    assert!(rt;
+        matches!(
+            refused(&rt, MOVED),
+            Some(DirRefused::Folder {
+                step: OpenStep::Lock,
+                ..
+            })
+        )
+    );
     assert!(rt; changes(alloc, &mut disk) && has_new_port(alloc, &mut disk));
     assert!(rt; gives(reader.fetch(alloc), b"abc"));
     drop(disk);
