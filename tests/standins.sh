@@ -164,17 +164,19 @@ case $(version) in
 *) fail "of a program that is older than its sources it says '$(version)'" ;;
 esac
 
-# spent: the milliseconds of processor that the commands before it took. The machine may be busy, so these count and not the time that went by.
-spent() {
+# count: the milliseconds of processor that all before it took, as spent. The machine may be busy, so these count and not the time that goes by.
+count() {
     times >"$work/times"
-    sed -n '2{s/[ms]/ /g;p;}' "$work/times" | awk '{ printf "%d", ($1 + $3) * 60000 + ($2 + $4) * 1000 }'
+    spent=$(sed -n '2s/[ms]/ /gp' "$work/times" | awk '{ printf "%d", ($1 + $3) * 60000 + ($2 + $4) * 1000 }')
 }
 
 # What is refused before rt builds anything is refused at once, also where a program is there and is older than its sources.
 path=$work/bin:$PATH
-begun=$(spent)
+count
+begun=$spent
 for _ in 1 2 3 4 5 6 7 8 9 10; do call data run --page 4; done
-each=$((($(spent) - begun) / 10))
+count
+each=$(((spent - begun) / 10))
 went 2 'bad words\n' "lethe: --page 4: the buffer's 512 is more than 4 x 4 x 8 (status 2: ./lethe --help)\n"
 [ "$each" -lt 50 ] || fail "refusing words takes $each ms of processor"
 pass "$calls calls said what they should and made nothing, and refusing words takes $each ms of processor"
