@@ -15,9 +15,18 @@ done
 echo 'fn main() {}' >"$crate/src/main.rt"
 cd "$work/here" || fail "no folder"
 
-# A run by rt: what it says itself, and among it what the program says.
+# rt: it builds a program that has no words, and a run by it has its own lines, and among them what the program says.
 cat >"$work/bin/rt" <<'RT'
 #!/bin/sh
+case $1 in
+lib) exit ;;
+run)
+    printf '#!/bin/sh\necho built\n' >out/lethe_cli
+    chmod +x out/lethe_cli
+    echo "bad words"
+    exit 2
+    ;;
+esac
 while [ "$1" != -- ]; do shift; done
 shift
 printf '%s|' "$@"
@@ -158,6 +167,13 @@ echo '# changed' >>"$program"
 stand_in
 [ "$(version)" = "proved program" ] || fail "of the same bytes again it says '$(version)'"
 [ "$(PATH=$path "$copy/lethe" --version | head -n 1)" = "lethe $(sed -n 's/^## \([0-9.]*\).*/\1/p' "$root/CHANGELOG.md" | head -n 1)" ] || fail "the version isn't the one of CHANGELOG.md"
+path=$work/bin:$PATH
+rm "$program.sum"
+call --build
+[ "$status-$(version)-$("$copy/lethe" data)" = "0-proved program-built" ] || fail "--build ended with status $status, and --version says '$(version)'"
+call --build
+went 0 '' 'lethe: the proved program is there already, and no source is newer\n'
+path=/usr/bin:/bin
 touch -d '2001-01-01' "$program"
 case $(version) in
 "nothing to run"*) ;;
