@@ -116,6 +116,10 @@ for options in --existing '--existing --quiet' '--quiet --existing'; do
 where" run
     went 10 'bad folder\n' "$said"
 done
+mkdir "$work/gateless"
+: >"$work/gateless/p-00000000000000000003"
+call --existing "$work/gateless" run
+went 10 'bad folder\n' "lethe: there is no store in $work/gateless: it holds p-00000000000000000003 and no gate, the empty file g-.. (docs/GUIDE.md, When something goes wrong) (status 10: ./lethe --help)\n"
 "$copy/lethe" data runs >/dev/full 2>"$work/said"
 [ "$?-$(wc -l <"$work/said")" = 5-1 ] || fail "with standard output full it says $(cat "$work/said")"
 [ "$("$copy/lethe" data runs 2>&-)" = "bad words" ] || fail "with standard error closed"
