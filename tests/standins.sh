@@ -84,6 +84,7 @@ data --existing run|behind the folder stands the command run: ./lethe DIR run < 
 --existing nowhere get a|behind the folder stands the command run: ./lethe DIR run < SCRIPT
 data run --none 4|--none is no option: ./lethe --help lists them
 data run 4|4 is no option: ./lethe --help lists them
+data run ''|? is no option: ./lethe --help lists them
 data run "--no$(printf '\n\t\033')e" 4|--no???e is no option: ./lethe --help lists them
 data run --ratio|--ratio has no value
 data run --ratio 4 --ratio 4|--ratio is given twice
