@@ -9,18 +9,18 @@ trap 'exit 130' INT
 trap 'exit 143' TERM
 
 pass() {
-    echo "PASS $this: $*"
+    printf 'PASS %s\n' "$this: $*"
     exit 0
 }
 
 fail() {
-    echo "FAIL $this: $*"
+    printf 'FAIL %s\n' "$this: $*"
     exit 1
 }
 
 # skip WHY: what it needs and lacks.
 skip() {
-    echo "SKIP $this: $*"
+    printf 'SKIP %s\n' "$this: $*"
     exit 77
 }
 
@@ -31,9 +31,12 @@ needs() {
     done
 }
 
-# Skips where the proved program isn't built, or is older than the sources.
+# Skips where the program isn't built, or is older than the sources. Any that `./lethe` would run is taken.
 needs_program() {
-    [ "$("$root/lethe" --version | tail -n 1)" = "proved program" ] || skip "it needs the proved program, which isn't built or is older than its sources: run ./lethe --build"
+    case $("$root/lethe" --version | tail -n 1) in
+    "proved program" | program*) ;;
+    *) skip "it needs the program, which isn't built or is older than its sources: run ./lethe --build" ;;
+    esac
 }
 
 program=$root/crates/lethe_cli/out/lethe_cli
@@ -41,6 +44,11 @@ program=$root/crates/lethe_cli/out/lethe_cli
 # run FOLDER: carries out the script on standard input over the store in a folder.
 run() {
     "$program" "$1" run
+}
+
+# listing FOLDER: each name in it, what it is and when it was changed, and the bytes.
+listing() {
+    (cd "$1" && find . -printf '%P %y %s %m %T@\n' | sort && find . -type f -exec sha256sum {} + | sort)
 }
 
 # all: the line that reads every key of these scripts.
