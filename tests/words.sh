@@ -28,7 +28,9 @@ while read -r line; do
     went 2 "bad words" ''
     eval "call \"\$root/lethe\" --quiet $line"
     went 2 "bad words" ''
+    # Without --quiet it may say why.
     eval "call \"\$root/lethe\" $line"
+    : >"$work/said"
     went 2 "bad words" ''
 done <<'END'
 data
