@@ -1,6 +1,6 @@
 #!/bin/sh
-# `./lethe` in a copy of the sources that has no proved program: one line on standard error says so, standard output and the status are the program's, and
-# what is stored is there for the next run. rt builds the sources anew for each call, so this takes some minutes.
+# `./lethe` in a copy of the sources that has no proved program: one line on standard error says so, the rest, standard output and the status are the program's,
+# and what is stored is there for the next run. rt builds the sources anew for each call, so this takes some minutes.
 # shellcheck source=tests/common.sh
 . "$(dirname -- "$0")/common.sh"
 needs rt tar
@@ -9,21 +9,21 @@ mkdir "$copy" "$work/elsewhere"
 tar -C "$root" --exclude=./.git --exclude=out -cf - . | tar -C "$copy" -xf - || fail "the sources couldn't be copied"
 cd "$work/elsewhere" || fail "no folder"
 
-# call WANTED STATUS WORD..: runs ./lethe of the copy over standard input, and compares.
+# call WANTED STATUS REASON WORD..: runs ./lethe of the copy over standard input, and compares. Where there is a reason it stands in a line of its own.
 call() {
-    wanted=$1 ends=$2
-    shift 2
+    wanted=$1 ends=$2 reason=$3
+    shift 3
     "$copy/lethe" "$@" >"$work/text" 2>"$work/said"
     status=$?
     [ "$status" = "$ends" ] || fail "'$*' ended with status $status, not $ends: $(tail -n 3 "$work/said")"
     printf '%s\n' "$wanted" | cmp -s - "$work/text" || fail "'$*' printed '$(head -c 300 "$work/text")'"
-    [ "$(wc -l <"$work/said")" = 1 ] || fail "standard error has other than one line: $(cat "$work/said")"
+    [ "$(sed 1d "$work/said")" = "$reason" ] || fail "behind its first line standard error has $(cat "$work/said")"
 }
 
 [ "$("$copy/lethe" --version | tail -n 1)" = "sources, run unproved by rt try" ] || fail "--version tells '$("$copy/lethe" --version)'"
 begun=$(date +%s)
 printf '1 put a 5 x\n1 get a\n' | call '1 ok 1
-1 at 1 val 5 x' 0 store run || exit 1
+1 at 1 val 5 x' 0 '' store run || exit 1
 first=$(($(date +%s) - begun))
 [ -d "$work/elsewhere/store" ] || fail "the store isn't in the folder where it was asked for"
 # A script that comes slowly is taken whole.
@@ -33,8 +33,8 @@ first=$(($(date +%s) - begun))
     printf '1 del a\n1 get a\n'
 } | call '1 at 1 val 5 x
 1 ok 2
-1 at 2 none' 0 "$work/elsewhere/store" run || exit 1
-printf '1 put a\n' | call 'line 1 bad count' 3 store run || exit 1
+1 at 2 none' 0 '' "$work/elsewhere/store" run || exit 1
+printf '1 put a\n' | call 'line 1 bad count' 3 '' store run || exit 1
 
 # A program that is there is taken, with the words as they are, until a source is newer.
 mkdir -p "$copy/crates/lethe_cli/out"
