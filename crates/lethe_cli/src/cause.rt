@@ -33,9 +33,9 @@ pub(crate) enum Cause {
     Run(Reason),
 }
 
-/// Where reasons are asked for, and the status isn't 0, prints one line on standard error. That it can't be written changes nothing.
+/// Where the status isn't 0, prints one line on standard error. That it can't be written changes nothing.
 pub(crate) fn explain(rt: &HostRuntime, words: &[String], status: u8, cause: &Cause) {
-    if status == 0 || is_quiet(rt) {
+    if status == 0 {
         return;
     }
     let alloc = rt.alloc();
@@ -51,8 +51,9 @@ pub(crate) fn explain(rt: &HostRuntime, words: &[String], status: u8, cause: &Ca
     };
 }
 
-fn is_quiet(rt: &HostRuntime) -> bool {
-    matches!(env::var(rt, EXPLAIN), Err(VarError::NotPresent))
+/// The variable is set, whatever it holds.
+pub(crate) fn asks_for_reasons(rt: &HostRuntime) -> bool {
+    !matches!(env::var(rt, EXPLAIN), Err(VarError::NotPresent))
 }
 
 fn message_of(alloc: Global, words: &[String], cause: &Cause) -> Result<Message, NoMemory> {

@@ -3,7 +3,7 @@
 
 mod cause;
 
-use cause::{Cause, explain};
+use cause::{Cause, asks_for_reasons, explain};
 use lethe_dirdisk::{DirDisk, DirRefused, OpenStep, first_stray};
 use lethe_disk::{Disk, DiskRefused};
 use lethe_run::{are_words, run_told};
@@ -25,25 +25,45 @@ const NO_MEMORY: u8 = 7;
 const BAD_FOLDER: u8 = 10;
 
 fn main(rt: HostRuntime) -> ExitCode {
-    let status = match words_of(&rt) {
-        Ok(words) => {
-            let (status, cause) = end_of(&rt, &words);
-            explain(&rt, &words, status, &cause);
-            status
+    match words_of(&rt) {
+        Ok(all) => {
+            let (is_asked, words) = behind_explain(&all);
+            let (status, cause) = end_of(&rt, words);
+            told(&rt, is_asked, words, status, &cause)
         }
         Err(error) if error.kind() == ErrorKind::OutOfMemory => {
-            explain(&rt, &[], NO_MEMORY, &Cause::NoMemory);
-            NO_MEMORY
+            told(&rt, false, &[], NO_MEMORY, &Cause::NoMemory)
         }
         // A word that is no text is no word of a command.
         Err(_) => {
             let mut sink = StdSink::new(io::writer(&rt));
             let status = say(&mut sink, b"bad words\n", BAD_WORDS);
-            explain(&rt, &[], status, &Cause::NoText);
-            status
+            told(&rt, false, &[], status, &Cause::NoText)
         }
-    };
+    }
+}
+
+/// The end of the program, with its reason on standard error where that is asked for.
+fn told(rt: &HostRuntime, is_asked: bool, words: &[String], status: u8, cause: &Cause) -> ExitCode {
+    if is_asked || asks_for_reasons(rt) {
+        explain(rt, words, status, cause);
+    }
     ExitCode::from(status)
+}
+
+/// Whether the words begin with `--explain`, before DIR and `run`, and those behind it. It stands for the variable where a program is run without an environment.
+fn behind_explain(words: &[String]) -> (bool, &[String]) {
+    match words {
+        [first, rest @ ..] if first.as_str() == "--explain" && is_run(rest) => (true, rest),
+        _ => (false, words),
+    }
+}
+
+fn is_run(words: &[String]) -> bool {
+    match words {
+        [_, command, ..] => command.as_str() == "run",
+        _ => false,
+    }
 }
 
 /// Runs the words behind DIR over the disk of that folder, and answers the status and its cause.

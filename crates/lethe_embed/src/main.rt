@@ -1,56 +1,21 @@
 //! How to use the crates as a library: it opens the folder `clients`, puts two records, deletes one, and prints what is there.
 #![tactic(auto)]
 
-use lethe_base::{Config, Fields, Key, NoMemory, Value};
-use lethe_dirdisk::{DirDisk, DirRefused};
-use lethe_engine::{Engine, OpenRefused};
-use lethe_reasons::{
-    Message, damaged, folder_refused, no_memory, open_exhausted, open_fault, other_config,
-    refused_answer,
-};
-use lethe_recover::OpenWhy;
+use lethe_base::{Config, Fields, Key, Value};
+use lethe_dirdisk::DirDisk;
+use lethe_engine::Engine;
 use std::alloc::Global;
 use std::process::ExitCode;
 
-/// The folder of the store.
-const FOLDER: &str = "clients";
-
-/// Why the tour ended early.
-#[derive(Drop)]
-enum Fault {
-    /// The folder isn't opened.
-    Folder(DirRefused),
-    /// The store in it isn't.
-    Store(OpenWhy),
-    /// A later call was refused; the error that is dropped there says why.
-    Call,
-}
-
 fn main(rt: HostRuntime) -> ExitCode {
-    match tour(&rt, rt.alloc()) {
-        Ok(()) => ExitCode::SUCCESS,
-        Err(fault) => {
-            if let Ok(why) = told(rt.alloc(), &fault) {
-                let _ = rt.eprintln(text(why.bytes()));
-            }
-            ExitCode::FAILURE
-        }
-    }
+    tour(&rt, rt.alloc()).map_or(ExitCode::FAILURE, |()| ExitCode::SUCCESS)
 }
 
-/// Opens the store, and shows what it does.
-fn tour(rt: &HostRuntime, alloc: Global) -> Result<(), Fault> {
-    let config = Config::new(Fields::default()).map_err(|_| Fault::Call)?;
-    let disk = DirDisk::open(rt, alloc, FOLDER).map_err(|why| Fault::Folder(why))?;
-    let store = match Engine::open(alloc, disk, &config) {
-        Ok(store) => store,
-        Err(OpenRefused { why, .. }) => return Err(Fault::Store(why)),
-    };
-    show(rt, alloc, store).ok_or(Fault::Call)
-}
-
-/// Puts, deletes and reads.
-fn show(rt: &HostRuntime, alloc: Global, mut store: Engine<DirDisk>) -> Option<()> {
+/// Puts, deletes and reads. None where a step failed: the errors that are dropped here say why.
+fn tour(rt: &HostRuntime, alloc: Global) -> Option<()> {
+    let config = Config::new(Fields::default()).ok()?;
+    let disk = DirDisk::open(rt, alloc, "clients").ok()?;
+    let mut store = Engine::open(alloc, disk, &config).ok()?;
     let mut port = store.new_port(alloc).ok()?;
     let elm = value(alloc, "12 Elm Street")?;
     store
@@ -70,21 +35,6 @@ fn show(rt: &HostRuntime, alloc: Global, mut store: Engine<DirDisk>) -> Option<(
         println!(rt; "{key} until {day}: {value}").ok()?;
     }
     Some(())
-}
-
-/// What is said of a fault.
-fn told(alloc: Global, fault: &Fault) -> Result<Message, NoMemory> {
-    match fault {
-        Fault::Folder(why) => folder_refused(alloc, FOLDER, why),
-        Fault::Store(why) => match *why {
-            OpenWhy::Damaged { name } => damaged(alloc, name),
-            OpenWhy::OtherConfig { kept } => other_config(alloc, kept.fields(), &Fields::default()),
-            OpenWhy::Fault { .. } => open_fault(alloc),
-            OpenWhy::Exhausted { last } => open_exhausted(alloc, last),
-            OpenWhy::NoMemory => no_memory(alloc),
-        },
-        Fault::Call => refused_answer(alloc),
-    }
 }
 
 fn key(alloc: Global, text: &str) -> Option<Key> {
