@@ -34,7 +34,7 @@ first=$(($(date +%s) - begun))
 } | call '1 at 1 val 5 x
 1 ok 2
 1 at 2 none' 0 '' "$work/elsewhere/store" run || exit 1
-printf '1 put a\n' | call 'line 1 bad count' 3 '' store run || exit 1
+printf '1 put a\n' | call 'line 1 bad count' 3 'lethe: line 1: put takes KEY NUMBER VALUE, and there are fewer fields (status 3: ./lethe --help)' store run || exit 1
 
 # A program that is there is taken, with the words as they are, until a source is newer.
 mkdir -p "$copy/crates/lethe_cli/out"

@@ -128,7 +128,7 @@ went 10 'bad folder\n' "lethe: there is no store in $work/gateless: it holds p-0
 # Without a program: what rt says itself isn't passed on, what the program says is.
 slow="lethe: the proved program isn't built, so rt try builds the same sources and runs them unproved, which takes a minute or more; ./lethe --build proves and builds it\n"
 call data run --ratio 4
-went 10 "$PWD/data|run|--ratio|4|in" "${slow}lethe: a reason (status 10: ./lethe --help)\n"
+went 10 "--explain|$PWD/data|run|--ratio|4|in" "${slow}lethe: a reason (status 10: ./lethe --help)\n"
 call --quiet /data run
 went 10 "/data|run|in" "$slow"
 PATH=$path "$copy/lethe" data run </ >"$work/text" 2>"$work/said"
