@@ -1,2 +1,1 @@
-pub mod Crossed
 pub mod Seats

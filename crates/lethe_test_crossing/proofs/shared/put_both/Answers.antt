@@ -1,11 +1,19 @@
+use denote.RattleType.{RattleType}
 use denote.Param.{param}
-use denote.Param.Send.{param_send, sendable}
+use denote.Param.Send.{IsSend, IsSync, param_send, sendable}
+use denote.Param.SendFields.{declared_send}
+use Rattle.lethe_disk.specs.declared.disk.Disk.{Ghosts}
+use Rattle.lethe_engine.proofs.Crossing.{engine_send}
 use Rattle.lethe_turn.proofs.Crossing.{seat_send, turn_sync}
-use Rattle.lethe_test_crossing.proofs.Crossed.{lent_send}
 use Rattle.lethe_test_crossing.specs.contracts.shared.Lent as Lent
 use Rattle.lethe_test_crossing.specs.contracts.shared.Nothing as Nothing
 use Rattle.lethe_test_crossing.proofs.shared.put_both.Lts as lts
 use Rattle.lethe_test_crossing.proofs.shared.put_both.Goals as goal
+
+-- a store behind a turn may go to another thread
+module _ (D P Q : RattleType) (g : Ghosts D.Denot P.Denot Q.Denot) where
+  lent_send : IsSend P → IsSync P → IsSend D → IsSend (Lent.the_row D P Q g)
+  lent_send s y d = declared_send (Lent.the_type D P Q g) (engine_send D P Q g s y d, tt)
 
 pub join-one-requires-send-F : goal.join-one-requires-send-F
 join-one-requires-send-F g c κs within =
