@@ -1,8 +1,6 @@
-//! Changes one behind another: a script of five that is stopped at each device call, and generated scripts in rows and one by one.
+//! Changes one behind another: a script of five that is stopped at each device call.
 
-use lethe_base::{Kind, Name};
-use lethe_generated::Generated;
-use lethe_images::{IMAGES, image_of, objects_of, roomy_disk, take_calls};
+use lethe_images::{IMAGES, image_of, roomy_disk, take_calls};
 use lethe_memdisk::MemDisk;
 use lethe_rows::{Left, SMALL, done_lines, run_over};
 use std::alloc::Global;
@@ -105,60 +103,4 @@ fn a_row_that_is_stopped_has_what_was_answered(rt: HostRuntime) -> Result<(), Fa
         }
     }
     Err(Fail::new("too many calls"))
-}
-
-// The lines that a text has of changes.
-fn changes_in(alloc: Global, text: &[u8]) -> Result<Vec<u8>, Fail> {
-    let mut lines = Vec::new(alloc);
-    for line in text.split(|byte| *byte == b'\n') {
-        if line.starts_with(b"1 ok ") {
-            lines.extend_from_slice(line)?;
-            lines.push(b'\n')?;
-        }
-    }
-    Ok(lines)
-}
-
-// The script with a read behind each line, so that no two changes stand one behind another.
-fn one_by_one(alloc: Global, script: &str) -> Result<String, Fail> {
-    let mut lines = String::new(alloc);
-    for line in script.lines() {
-        lines.push_str(line)?;
-        lines.push_str("\n1 get a\n")?;
-    }
-    Ok(lines)
-}
-
-// The segments of a disk, with their bytes.
-fn segments_of(alloc: Global, disk: &mut MemDisk) -> Result<Vec<(Name, Vec<u8>)>, Fail> {
-    let mut segments = Vec::new(alloc);
-    for (name, bytes) in objects_of(alloc, disk)? {
-        if name.kind == Kind::Segment {
-            segments.push((name, bytes))?;
-        }
-    }
-    Ok(segments)
-}
-
-// Runs the script in rows, and one change by one.
-fn are_alike(alloc: Global, made: &Generated) -> Result<bool, Fail> {
-    let whole = made.whole(alloc)?;
-    let mut rows = made.run(alloc, &whole.script, roomy_disk(alloc)?)?;
-    let apart = one_by_one(alloc, &whole.script)?;
-    let mut single = made.run(alloc, &apart, roomy_disk(alloc)?)?;
-    let told = changes_in(alloc, &rows.printed.text)? == changes_in(alloc, &single.printed.text)?;
-    let left = segments_of(alloc, &mut rows.disk)? == segments_of(alloc, &mut single.disk)?;
-    Ok(told && left && rows.printed.text.as_slice() == whole.text.as_bytes())
-}
-
-#[test]
-fn rows_leave_what_single_changes_leave(rt: HostRuntime) -> Result<(), Fail> {
-    let alloc = rt.alloc();
-    for seed in 40..50 {
-        assert!(rt;
-            are_alike(alloc, &Generated::erasing(alloc, seed, 6)?)?,
-            "{seed}"
-        );
-    }
-    Ok(())
 }

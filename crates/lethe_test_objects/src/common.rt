@@ -6,8 +6,11 @@ use lethe_base::{Config, Fields, Key, MAX_TIME, Pick, Range, Refused, Value};
 use lethe_disk::Disk;
 use lethe_drive::{Event, Reply, drive};
 use lethe_engine::{Engine, Ticked};
+use lethe_images::{Held, held_by, roomy_disk};
+use lethe_memdisk::MemDisk;
 use std::alloc::Global;
 use std::marker::Model;
+use std::process::Abort;
 use std::test::Fail;
 
 /// The threshold of its configuration. Level 0 may have a value for 33 behind its erase, and level 1 for 100.
@@ -33,12 +36,31 @@ pub enum Ask {
     Tick(u64),
 }
 
-fn key_of(alloc: Global, text: &str) -> Result<Key, Fail> {
-    Ok(Key::new(text.as_bytes().to_vec(alloc)?)?)
+/// What was made; the process ends where it wasn't.
+pub fn must<T>(rt: &impl Abort, made: Result<T, Fail>) -> T {
+    match made {
+        Ok(value) => value,
+        Err(_) => panic!(rt; "it isn't made"),
+    }
 }
 
-fn value_of(alloc: Global, text: &str) -> Result<Value, Fail> {
-    Ok(Value::new(text.as_bytes().to_vec(alloc)?)?)
+pub fn new_disk(alloc: Global, rt: &impl Abort) -> MemDisk {
+    must(rt, roomy_disk(alloc))
+}
+
+/// What the objects of the disk hold.
+pub fn held_on(alloc: Global, rt: &impl Abort, disk: &mut MemDisk) -> Held {
+    must(rt, held_by(alloc, disk))
+}
+
+fn key_of(alloc: Global, rt: &impl Abort, text: &str) -> Key {
+    let bytes = text.as_bytes().to_vec(alloc).expect(rt, "memory");
+    Key::new(bytes).expect(rt, "a key")
+}
+
+fn value_of(alloc: Global, rt: &impl Abort, text: &str) -> Value {
+    let bytes = text.as_bytes().to_vec(alloc).expect(rt, "memory");
+    Value::new(bytes).expect(rt, "a value")
 }
 
 /// A store under test. That it is sound stands in its model, so its callers have nothing to prove. Each call has a port of its own.
@@ -60,103 +82,90 @@ impl<D: Disk> Model for Store<D> {
 
 impl<D: Disk> Store<D> {
     /// The store of a disk, or none where that fails.
-    pub fn opened_if_sound(alloc: Global, disk: D) -> Result<Option<Store<D>>, Fail> {
-        match Engine::open(alloc, disk, &Config::new(SMALL)?) {
-            Ok(engine) => Ok(Some(Store { engine })),
-            Err(_) => Ok(None),
+    pub fn opened_if_sound(alloc: Global, rt: &impl Abort, disk: D) -> Option<Store<D>> {
+        let config = Config::new(SMALL).expect(rt, "a configuration");
+        match Engine::open(alloc, disk, &config) {
+            Ok(engine) => Some(Store { engine }),
+            Err(_) => None,
         }
     }
 
-    pub fn opened(alloc: Global, disk: D) -> Result<Store<D>, Fail> {
-        Ok(Store::opened_if_sound(alloc, disk)?.ok_or("a store")?)
+    pub fn opened(alloc: Global, rt: &impl Abort, disk: D) -> Store<D> {
+        Store::opened_if_sound(alloc, rt, disk).expect(rt, "a store")
+    }
+
+    fn port(&mut self, alloc: Global, rt: &impl Abort) -> D::Port {
+        self.engine.new_port(alloc).expect(rt, "a port")
     }
 
     /// Makes the put, and tells the place that it takes, or why it is refused.
     pub fn put(
         &mut self,
         alloc: Global,
+        rt: &impl Abort,
         key: &str,
         dkey: u64,
         value: &str,
-    ) -> Result<Result<u64, Refused>, Fail> {
-        let key = key_of(alloc, key)?;
-        let value = value_of(alloc, value)?;
-        let mut port = self.engine.new_port(alloc)?;
-        Ok(self.engine.put(alloc, &mut port, key, dkey, value))
+    ) -> Result<u64, Refused> {
+        let key = key_of(alloc, rt, key);
+        let value = value_of(alloc, rt, value);
+        let mut port = self.port(alloc, rt);
+        self.engine.put(alloc, &mut port, key, dkey, value)
     }
 
-    pub fn delete(&mut self, alloc: Global, key: &str) -> Result<Result<u64, Refused>, Fail> {
-        let key = key_of(alloc, key)?;
-        let mut port = self.engine.new_port(alloc)?;
-        Ok(self.engine.delete(alloc, &mut port, key))
+    pub fn delete(&mut self, alloc: Global, rt: &impl Abort, key: &str) -> Result<u64, Refused> {
+        let key = key_of(alloc, rt, key);
+        let mut port = self.port(alloc, rt);
+        self.engine.delete(alloc, &mut port, key)
     }
 
     /// Erases the delete keys from the first up to the second.
-    pub fn erase(&mut self, alloc: Global, lo: u64, hi: u64) -> Result<u64, Fail> {
-        let range = Range::new(lo, hi).ok_or("a range")?;
-        let mut port = self.engine.new_port(alloc)?;
-        Ok(self.engine.erase(alloc, &mut port, range)?)
+    pub fn erase(&mut self, alloc: Global, rt: &impl Abort, lo: u64, hi: u64) -> u64 {
+        let range = Range::new(lo, hi).expect(rt, "a range");
+        let mut port = self.port(alloc, rt);
+        let erased = self.engine.erase(alloc, &mut port, range);
+        erased.expect(rt, "an erase")
     }
 
     /// Moves the clock, and tells what is answered.
-    pub fn tick(&mut self, alloc: Global, to: u64) -> Result<Result<Ticked, Refused>, Fail> {
-        if to > MAX_TIME {
-            return Err(Fail::new("a time"));
-        }
-        let mut port = self.engine.new_port(alloc)?;
-        Ok(self.engine.tick(alloc, &mut port, to))
+    pub fn tick(&mut self, alloc: Global, rt: &impl Abort, to: u64) -> Result<Ticked, Refused> {
+        assert!(rt; to <= MAX_TIME);
+        let mut port = self.port(alloc, rt);
+        self.engine.tick(alloc, &mut port, to)
     }
 
     /// Moves the clock, which is not refused.
-    pub fn must_tick(&mut self, alloc: Global, to: u64) -> Result<Ticked, Fail> {
-        Ok(self.tick(alloc, to)??)
+    pub fn must_tick(&mut self, alloc: Global, rt: &impl Abort, to: u64) -> Ticked {
+        self.tick(alloc, rt, to).expect(rt, "a tick")
     }
 
     /// Makes the call, and tells the place that it takes, or why it is refused.
-    pub fn answer(&mut self, alloc: Global, ask: Ask) -> Result<Result<u64, Refused>, Fail> {
+    pub fn answer(&mut self, alloc: Global, rt: &impl Abort, ask: Ask) -> Result<u64, Refused> {
         match ask {
-            Ask::Put(key, dkey, value) => self.put(alloc, key, dkey, value),
-            Ask::Delete(key) => self.delete(alloc, key),
-            Ask::Tick(to) => match self.tick(alloc, to)? {
-                Ok(ticked) => Ok(Ok(ticked.place)),
-                Err(why) => Ok(Err(why)),
-            },
+            Ask::Put(key, dkey, value) => self.put(alloc, rt, key, dkey, value),
+            Ask::Delete(key) => self.delete(alloc, rt, key),
+            Ask::Tick(to) => self.tick(alloc, rt, to).map(|ticked| ticked.place),
         }
     }
 
     /// The delete key and the value of a key.
-    pub fn get(&mut self, alloc: Global, key: &str) -> Result<Option<(u64, Value)>, Fail> {
-        let key = key_of(alloc, key)?;
-        let mut port = self.engine.new_port(alloc)?;
-        Ok(self.engine.get(alloc, &mut port, &key)?)
-    }
-
-    /// The keys from the first up to the second, which is excluded.
-    pub fn scan(
-        &mut self,
-        alloc: Global,
-        lo: &str,
-        hi: &str,
-    ) -> Result<Vec<(Key, u64, Value)>, Fail> {
-        let lo = key_of(alloc, lo)?;
-        let hi = key_of(alloc, hi)?;
-        let mut port = self.engine.new_port(alloc)?;
-        Ok(self.engine.scan(alloc, &mut port, &lo, &hi)?)
+    pub fn get(&mut self, alloc: Global, rt: &impl Abort, key: &str) -> Option<(u64, Value)> {
+        let key = key_of(alloc, rt, key);
+        let mut port = self.port(alloc, rt);
+        let got = self.engine.get(alloc, &mut port, &key);
+        got.expect(rt, "an answer")
     }
 
     /// Flushes the frozen buffer.
-    pub fn flush(&mut self, alloc: Global) -> Result<bool, Fail> {
-        Ok(self.engine.flush(alloc)?)
+    pub fn flush(&mut self, alloc: Global, rt: &impl Abort) {
+        self.engine.flush(alloc).expect(rt, "a flush");
     }
 
     /// What is answered to a run of events.
-    pub fn drive(&mut self, alloc: Global, events: Vec<Event>) -> Result<Vec<Reply>, Fail> {
-        let mut port = self.engine.new_port(alloc)?;
-        Ok(drive(&mut self.engine, alloc, &mut port, events)?)
-    }
-
-    pub fn clock(&self) -> u64 {
-        self.engine.stat().clock
+    pub fn drive(&mut self, alloc: Global, rt: &impl Abort, events: Vec<Event>) -> Vec<Reply> {
+        let mut port = self.port(alloc, rt);
+        let replies = drive(&mut self.engine, alloc, &mut port, events);
+        replies.expect(rt, "replies")
     }
 
     /// Whether the certificates that were answered are those of these two ticks.

@@ -1,12 +1,12 @@
 //! A tick with two flushes and two merges, whose device calls and fetches fail in turn.
 
-use crate::common::{Ask, Store};
+use crate::common::{Ask, Store, held_on, new_disk};
 use lethe_base::Refused;
 use lethe_disk::Disk;
-use lethe_images::{Held, held_by, roomy_disk};
+use lethe_images::Held;
 use lethe_memdisk::{FlakyDisk, MemDisk};
 use std::alloc::Global;
-use std::test::Fail;
+use std::process::Abort;
 
 /// The time of the tick.
 const TO: u64 = 140;
@@ -35,48 +35,31 @@ const YOUNG: [Ask; 5] = [
 ];
 
 /// Makes these calls, and tells whether none was refused.
-fn make_all<D: Disk>(alloc: Global, store: &mut Store<D>, asks: &[Ask]) -> Result<bool, Fail> {
+fn make_all<D: Disk>(alloc: Global, rt: &impl Abort, store: &mut Store<D>, asks: &[Ask]) -> bool {
     for ask in asks {
-        if store.answer(alloc, *ask)?.is_err() {
-            return Ok(false);
+        if store.answer(alloc, rt, *ask).is_err() {
+            return false;
         }
     }
-    Ok(true)
+    true
 }
 
 /// Puts the keys that begin with a letter.
-fn put_row(alloc: Global, store: &mut Store<MemDisk>, first: &str) -> Result<(), Fail> {
+fn put_row(alloc: Global, rt: &impl Abort, store: &mut Store<MemDisk>, first: &str) {
     for second in &SECOND {
-        let key = format!(in alloc; "{first}{second}")?;
-        store.put(alloc, &key, 5, "many")??;
+        let key = format!(in alloc; "{first}{second}").expect(rt, "memory");
+        store.put(alloc, rt, &key, 5, "many").expect(rt, "a put");
     }
-    Ok(())
 }
 
-fn put_keys(alloc: Global, store: &mut Store<MemDisk>) -> Result<(), Fail> {
+/// The disk of a store with two levels of files, of which the upper one has a tombstone over the lower.
+fn disk_of_levels(alloc: Global, rt: &impl Abort) -> MemDisk {
+    let mut store = Store::opened(alloc, rt, new_disk(alloc, rt));
     for first in &FIRST {
-        put_row(alloc, store, *first)?;
+        put_row(alloc, rt, &mut store, *first);
     }
-    Ok(())
-}
-
-/// Fills two levels with files, of which the upper one has a tombstone over the lower.
-fn fill_levels(alloc: Global, store: &mut Store<MemDisk>) -> Result<(), Fail> {
-    put_keys(alloc, store)?;
-    if make_all(alloc, store, &OLD)? {
-        Ok(())
-    } else {
-        Err(Fail::new("levels"))
-    }
-}
-
-/// The disk of a store with such levels.
-fn disk_of_levels(alloc: Global) -> Result<MemDisk, Fail> {
-    let mut store = Store::opened(alloc, roomy_disk(alloc)?)?;
-    let filled = fill_levels(alloc, &mut store);
-    let disk = store.into_disk();
-    filled?;
-    Ok(disk)
+    assert!(rt; make_all(alloc, rt, &mut store, &OLD));
+    store.into_disk()
 }
 
 /// What comes of the tick.
@@ -89,24 +72,21 @@ enum Came {
 }
 
 /// Makes the other changes and then the tick.
-fn age_and_tick<D: Disk>(alloc: Global, store: &mut Store<D>) -> Result<Came, Fail> {
-    if !make_all(alloc, store, &YOUNG)? {
-        return Ok(Came::Early);
+fn age_and_tick<D: Disk>(alloc: Global, rt: &impl Abort, store: &mut Store<D>) -> Came {
+    if !make_all(alloc, rt, store, &YOUNG) {
+        return Came::Early;
     }
-    Ok(match store.tick(alloc, TO)? {
+    match store.tick(alloc, rt, TO) {
         Ok(_) => Came::Made,
         Err(why) => Came::Refused(why),
-    })
+    }
 }
 
 /// The same over the disk of such levels, with the disk that it leaves; none where it isn't opened.
-fn came_over<D: Disk>(alloc: Global, disk: D) -> Result<Option<(Came, D)>, Fail> {
-    let Some(mut store) = Store::opened_if_sound(alloc, disk)? else {
-        return Ok(None);
-    };
-    let came = age_and_tick(alloc, &mut store);
-    let disk = store.into_disk();
-    Ok(Some((came?, disk)))
+fn came_over<D: Disk>(alloc: Global, rt: &impl Abort, disk: D) -> Option<(Came, D)> {
+    let mut store = Store::opened_if_sound(alloc, rt, disk)?;
+    let came = age_and_tick(alloc, rt, &mut store);
+    Some((came, store.into_disk()))
 }
 
 /// Whether the objects hold none of the puts that are to be gone, and each of the others.
@@ -116,79 +96,75 @@ fn is_clean(held: &Held) -> bool {
     gone && left
 }
 
-/// Makes the tick over a disk that is opened, and fails where it leaves any of the puts that are to be gone.
-fn must_end_clean(alloc: Global, disk: MemDisk) -> Result<(), Fail> {
-    let mut store = Store::opened(alloc, disk)?;
-    let ticked = store.must_tick(alloc, TO);
-    let mut disk = store.into_disk();
-    ticked?;
-    if is_clean(&held_by(alloc, &mut disk)?) {
-        Ok(())
-    } else {
-        Err(Fail::new("not clean"))
-    }
+/// Makes the tick over a disk that is opened: none of the puts that are to be gone is left.
+fn check_ends_clean(alloc: Global, rt: &impl Abort, disk: MemDisk) {
+    let mut store = Store::opened(alloc, rt, disk);
+    store.must_tick(alloc, rt, TO);
+    let held = held_on(alloc, rt, &mut store.into_disk());
+    assert!(rt; is_clean(&held));
 }
 
 /// Whether the tick is refused where the device fails behind so many calls; then the same tick over what is left has to end clean.
-fn is_refused_behind(alloc: Global, calls: u64) -> Result<bool, Fail> {
-    let mut disk = disk_of_levels(alloc)?;
+fn is_refused_behind(alloc: Global, rt: &impl Abort, calls: u64) -> bool {
+    let mut disk = disk_of_levels(alloc, rt);
     disk.fuse(calls);
-    match came_over(alloc, disk)? {
-        Some((Came::Refused(Refused::Fault { place: 48, .. }), mut disk)) => {
+    match came_over(alloc, rt, disk) {
+        Some((Came::Refused(why), mut disk)) => {
+            assert!(rt; matches!(why, Refused::Fault { place: 48, .. }));
             disk.fuse(1_000);
-            must_end_clean(alloc, disk)?;
-            Ok(true)
+            check_ends_clean(alloc, rt, disk);
+            true
         }
-        Some((Came::Refused(_), _)) => Err(Fail::new("another refusal")),
-        _ => Ok(false),
+        _ => false,
     }
 }
 
 #[test]
-fn a_fault_at_each_device_call_is_made_good_by_the_same_tick(rt: HostRuntime) -> Result<(), Fail> {
+fn a_fault_at_each_device_call_is_made_good_by_the_same_tick(rt: HostRuntime) {
     let mut refused: usize = 0;
     for calls in 0..200 {
-        if is_refused_behind(rt.alloc(), calls)? {
+        if is_refused_behind(rt.alloc(), &rt, calls) {
             refused = refused.saturating_add(1);
         }
     }
     // Two flushes, two merges and the last step.
     assert!(rt; refused >= 40);
-    Ok(())
+}
+
+/// The refusal of the first fetch that fails.
+const FAULT: Refused = Refused::ReadFault {
+    before: 0,
+    after: 1,
+};
+
+/// A disk of such levels whose fetch of that number fails.
+fn flaky_levels(alloc: Global, rt: &impl Abort, fetch: u64) -> FlakyDisk {
+    let mut failing = Vec::new(alloc);
+    failing.push(fetch).expect(rt, "memory");
+    FlakyDisk::new(disk_of_levels(alloc, rt), failing)
 }
 
 /// Whether the tick is refused where that fetch fails; then the same tick over what is left has to end clean.
-fn is_refused_at(alloc: Global, fetch: u64) -> Result<bool, Fail> {
-    let disk = FlakyDisk::new(disk_of_levels(alloc)?, vec![in alloc; fetch]?);
-    match came_over(alloc, disk)? {
-        Some(
-            (
-                Came::Refused(
-                    Refused::ReadFault {
-                        before: 0,
-                        after: 1,
-                    },
-                ),
-                disk,
-            ),
-        ) => {
-            must_end_clean(alloc, disk.into_inner())?;
-            Ok(true)
+fn is_refused_at(alloc: Global, rt: &impl Abort, fetch: u64) -> bool {
+    match came_over(alloc, rt, flaky_levels(alloc, rt, fetch)) {
+        Some((Came::Refused(why), disk)) => {
+            assert!(rt; why == FAULT);
+            check_ends_clean(alloc, rt, disk.into_inner());
+            true
         }
-        Some((Came::Made, _)) => Ok(false),
-        _ => Err(Fail::new("another refusal")),
+        Some((Came::Made, _)) => false,
+        _ => panic!(rt; "the tick isn't asked for"),
     }
 }
 
 #[test]
-fn a_fetch_that_fails_is_made_good_by_the_same_tick(rt: HostRuntime) -> Result<(), Fail> {
+fn a_fetch_that_fails_is_made_good_by_the_same_tick(rt: HostRuntime) {
     let mut refused: usize = 0;
     for fetch in 1..20 {
-        if is_refused_at(rt.alloc(), fetch)? {
+        if is_refused_at(rt.alloc(), &rt, fetch) {
             refused = refused.saturating_add(1);
         }
     }
     // The pages of the inputs of two merges.
     assert!(rt; refused >= 5);
-    Ok(())
 }

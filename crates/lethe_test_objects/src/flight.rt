@@ -4,25 +4,25 @@ ghost use Rattle.lethe_core.specs.Jobs.{IsAtWork};
 ghost use Rattle.lethe_core.specs.Running.{IsSound};
 ghost use Rattle.lethe_core.specs.View.{view_of};
 
-use crate::common::Store;
+use crate::common::{Store, held_on, must};
 use lethe_disk::Disk;
 use lethe_engine::Engine;
-use lethe_images::{Held, held_by};
+use lethe_images::Held;
 use lethe_job::Job;
 use lethe_memdisk::MemDisk;
 use std::alloc::Global;
+use std::process::Abort;
 use std::test::Fail;
 
 // A store of two files of level 0, each of two pages, and of a buffer of one record.
 const KEYS: [&str; 9] = ["a", "b", "c", "d", "e", "f", "g", "h", "i"];
 
 /// Fills two files of level 0.
-pub fn fill(alloc: Global, store: &mut Store<MemDisk>) -> Result<(), Fail> {
+pub fn fill(alloc: Global, rt: &impl Abort, store: &mut Store<MemDisk>) {
     for text in &KEYS {
-        store.put(alloc, *text, 7, *text)??;
+        store.put(alloc, rt, *text, 7, *text).expect(rt, "a put");
     }
-    store.flush(alloc)?;
-    Ok(())
+    store.flush(alloc, rt);
 }
 
 /// Writes the job's next page.
@@ -50,33 +50,31 @@ fn write_pages<D: Disk>(alloc: Global, engine: &mut Engine<D>, pages: usize) -> 
     Ok(())
 }
 
-/// A store of two files of level 0.
-fn store_of_two_files(alloc: Global) -> Result<Store<MemDisk>, Fail> {
-    let disk = MemDisk::new(alloc, 1000, Vec::new(alloc))?;
-    let mut store = Store::opened(alloc, disk)?;
-    fill(alloc, &mut store)?;
-    Ok(store)
+/// What is on the disk of a store of two files that has a job in flight, of which so many pages are written.
+fn held_in_flight(alloc: Global, rt: &impl Abort, pages: usize) -> Held {
+    let disk = MemDisk::new(alloc, 1000, Vec::new(alloc)).expect(rt, "memory");
+    let mut store = Store::opened(alloc, rt, disk);
+    fill(alloc, rt, &mut store);
+    let mut engine = store.into_engine();
+    must(rt, write_pages(alloc, &mut engine, pages));
+    held_on(alloc, rt, &mut engine.into_disk())
 }
 
-/// What is on the disk of a store that has a job in flight, of which so many pages are written.
-fn held_in_flight(alloc: Global, pages: usize) -> Result<Held, Fail> {
-    let mut engine = store_of_two_files(alloc)?.into_engine();
-    let written = write_pages(alloc, &mut engine, pages);
-    let mut disk = engine.into_disk();
-    written?;
-    held_by(alloc, &mut disk)
+/// Whether there are two files of two pages, and those of the job, which have the files' puts again.
+fn has_job_beside_files(held: &Held, pages: usize) -> bool {
+    (held.gates, held.manifests, held.files) == (1, 1, 2)
+        && Some(held.pages) == pages.checked_add(4)
+        && Some(held.puts.len())
+            == pages
+                .checked_add(pages)
+                .and_then(|puts| puts.checked_add(9))
+        && held.puts.iter().all(|place| 1 <= *place && *place <= 9)
 }
 
 #[test]
-fn pages_of_a_job_are_spellings_of_stored_puts(rt: HostRuntime) -> Result<(), Fail> {
-    let alloc = rt.alloc();
+fn pages_of_a_job_are_spellings_of_stored_puts(rt: HostRuntime) {
     for pages in 0..5 {
-        let held = held_in_flight(alloc, pages)?;
-        assert!(rt; (held.gates, held.manifests, held.files) == (1, 1, 2));
-        // Two files of two pages, and those of the job, which have the files' puts again.
-        assert!(rt; held.pages == pages + 4);
-        assert!(rt; held.puts.iter().all(|place| 1 <= *place && *place <= 9));
-        assert!(rt; held.puts.len() == 2 * pages + 9);
+        let held = held_in_flight(rt.alloc(), &rt, pages);
+        assert!(rt; has_job_beside_files(&held, pages), "{pages} pages");
     }
-    Ok(())
 }

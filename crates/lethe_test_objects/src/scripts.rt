@@ -1,14 +1,12 @@
-//! Generated changes with a tick behind every tenth, compared with a plain map. Those of an odd seed have erases.
-ghost use Rattle.std.specs.Prelude.{◌≤◌};
-ghost use Rattle.lethe_memdisk.specs.Held.{calls_of};
+//! Generated changes with a tick behind every tenth, compared with a plain map: what objects may hold behind a tick, seen from outside.
 
-use crate::common::{Store, THRESHOLD};
-use lethe_base::{Key, Value};
-use lethe_images::{Dice, IMAGES, held_by, image_of, roomy_disk, take_calls};
+use crate::common::{Store, THRESHOLD, held_on, must, new_disk};
+use lethe_base::Value;
+use lethe_images::Dice;
 use lethe_memdisk::MemDisk;
 use std::alloc::Global;
 use std::collections::BTreeMap;
-use std::test::Fail;
+use std::process::Abort;
 
 /// The letters of the keys: with two they come again soon.
 const LETTERS: [&str; 5] = ["a", "b", "c", "d", "e"];
@@ -42,18 +40,14 @@ fn is_eraser(change: &Change, key: &String, dkey: u64) -> bool {
 /// What a store has to hold: a map from a key to its put, the clock, and the changes, each with the clock before it.
 #[derive(Drop)]
 struct Plain {
-    alloc: Global,
-    erases: bool,
     map: BTreeMap<String, Held>,
     clock: u64,
     changes: Vec<(Change, u64)>,
 }
 
 impl Plain {
-    fn new(alloc: Global, erases: bool) -> Plain {
+    fn new(alloc: Global) -> Plain {
         Plain {
-            alloc,
-            erases,
             map: BTreeMap::new(alloc),
             clock: 0,
             changes: Vec::new(alloc),
@@ -66,37 +60,33 @@ impl Plain {
     }
 
     // Adds a change, and answers its place.
-    fn add(&mut self, change: Change) -> Result<u64, Fail> {
-        self.changes.push((change, self.clock))?;
-        Ok(self.count())
+    fn add(&mut self, rt: &impl Abort, change: Change) -> u64 {
+        self.changes.push((change, self.clock)).expect(rt, "memory");
+        self.count()
     }
 
-    fn put(&mut self, key: String, dkey: u64) -> Result<u64, Fail> {
-        let place = self.add(Change::Put(key.clone()?, dkey))?;
-        self.map.insert(key, Held { dkey, place })?;
-        Ok(place)
+    fn put(&mut self, rt: &impl Abort, key: String, dkey: u64) -> u64 {
+        let own = key.clone().expect(rt, "memory");
+        let place = self.add(rt, Change::Put(own, dkey));
+        let before: Result<_, _> = self.map.insert(key, Held { dkey, place });
+        before.expect(rt, "memory");
+        place
     }
 
-    fn delete(&mut self, key: String) -> Result<u64, Fail> {
+    fn delete(&mut self, rt: &impl Abort, key: String) -> u64 {
         self.map.remove(&key);
-        self.add(Change::Delete(key))
+        self.add(rt, Change::Delete(key))
     }
 
-    fn erase(&mut self, lo: u64, hi: u64) -> Result<u64, Fail> {
-        let mut left = BTreeMap::new(self.alloc);
-        for (key, held) in self.map.iter() {
-            if held.dkey < lo || hi <= held.dkey {
-                left.insert(key.clone()?, *held)?;
-            }
-        }
-        self.map = left;
-        self.add(Change::Erase(lo, hi))
+    fn erase(&mut self, rt: &impl Abort, lo: u64, hi: u64) -> u64 {
+        self.map.retain(|_, held| held.dkey < lo || hi <= held.dkey);
+        self.add(rt, Change::Erase(lo, hi))
     }
 
-    fn tick(&mut self, to: u64) -> Result<u64, Fail> {
-        let place = self.add(Change::Tick)?;
+    fn tick(&mut self, rt: &impl Abort, to: u64) -> u64 {
+        let place = self.add(rt, Change::Tick);
         self.clock = to;
-        Ok(place)
+        place
     }
 
     // When the put of that place was erased, if it was.
@@ -124,274 +114,135 @@ impl Plain {
 }
 
 // A value that names the place of its put.
-fn value_at(alloc: Global, place: u64) -> Result<String, Fail> {
-    Ok(format!(in alloc; "v{place}")?)
+fn value_at(alloc: Global, rt: &impl Abort, place: u64) -> String {
+    format!(in alloc; "v{place}").expect(rt, "memory")
 }
 
-// Whether a delete key and a value that were read are those of the put.
-fn is_told(alloc: Global, held: Held, dkey: u64, value: &Value) -> Result<bool, Fail> {
-    let wanted = value_at(alloc, held.place)?;
-    Ok(dkey == held.dkey && value.bytes() == wanted.as_bytes())
-}
-
-// What the store answers of a key is what the map has.
-fn answers_as(
-    alloc: Global,
-    store: &mut Store<MemDisk>,
-    plain: &Plain,
-    key: &String,
-) -> Result<bool, Fail> {
-    match (store.get(alloc, key)?, plain.map.get(key)) {
-        (None, None) => Ok(true),
-        (Some((dkey, value)), Some(held)) => is_told(alloc, *held, dkey, &value),
-        _ => Ok(false),
+// Whether what was read is the put's delete key and value, or nothing where there is no put.
+fn is_told(got: Option<&(u64, Value)>, held: Option<&Held>, value: &str) -> bool {
+    match (got, held) {
+        (None, None) => true,
+        (Some((dkey, told)), Some(held)) => {
+            *dkey == held.dkey && told.bytes() == value.as_bytes()
+        }
+        _ => false,
     }
 }
 
-// A put to the store and to the map, which answer the same.
+// What the store answers of a key has to be what the map has.
+fn check_get(
+    alloc: Global,
+    rt: &impl Abort,
+    store: &mut Store<MemDisk>,
+    plain: &Plain,
+    key: &String,
+) {
+    let held = plain.map.get(key);
+    let value = value_at(alloc, rt, held.map_or(0, |held| held.place));
+    let got = store.get(alloc, rt, key);
+    assert!(rt; is_told(got.as_ref(), held, &value));
+}
+
+// A put to the store and to the map, which have to answer the same.
 fn take_put(
     alloc: Global,
+    rt: &impl Abort,
     store: &mut Store<MemDisk>,
     plain: &mut Plain,
     key: String,
     dkey: u64,
-) -> Result<bool, Fail> {
-    let value = value_at(alloc, plain.count().saturating_add(1))?;
-    let place = store.put(alloc, &key, dkey, &value)??;
-    Ok(place == plain.put(key, dkey)?)
+) {
+    let value = value_at(alloc, rt, plain.count().saturating_add(1));
+    let place = store.put(alloc, rt, &key, dkey, &value).expect(rt, "a put");
+    assert!(rt; place == plain.put(rt, key, dkey));
 }
 
 // A delete of both.
 fn take_delete(
     alloc: Global,
+    rt: &impl Abort,
     store: &mut Store<MemDisk>,
     plain: &mut Plain,
     key: String,
-) -> Result<bool, Fail> {
-    let place = store.delete(alloc, &key)??;
-    Ok(place == plain.delete(key)?)
+) {
+    let place = store.delete(alloc, rt, &key).expect(rt, "a delete");
+    assert!(rt; place == plain.delete(rt, key));
 }
 
 // An erase of both, of at most three of the nine delete keys.
 fn take_erase(
     alloc: Global,
+    rt: &impl Abort,
     store: &mut Store<MemDisk>,
     plain: &mut Plain,
     dice: &mut Dice,
-) -> Result<bool, Fail> {
+) {
     let lo = dice.below(9) as u64;
     let hi = lo.saturating_add(dice.below(3) as u64).saturating_add(1);
-    let place = store.erase(alloc, lo, hi)?;
-    Ok(place == plain.erase(lo, hi)?)
+    let place = store.erase(alloc, rt, lo, hi);
+    assert!(rt; place == plain.erase(rt, lo, hi));
 }
 
-// A change or a read of the store and of the map, which answer the same.
+// A change or a read of the store and of the map.
 fn take_line(
     alloc: Global,
+    rt: &impl Abort,
     store: &mut Store<MemDisk>,
     plain: &mut Plain,
     dice: &mut Dice,
-) -> Result<bool, Fail> {
-    let key = dice.key(alloc, &LETTERS)?;
-    match dice.below(if plain.erases { 14 } else { 10 }) {
-        0..5 | 10..13 => take_put(alloc, store, plain, key, dice.below(9) as u64),
-        5..8 => take_delete(alloc, store, plain, key),
-        8..10 => answers_as(alloc, store, plain, &key),
-        _ => take_erase(alloc, store, plain, dice),
+) {
+    let key = must(rt, dice.key(alloc, &LETTERS));
+    match dice.below(14) {
+        0..5 | 10..13 => take_put(alloc, rt, store, plain, key, dice.below(9) as u64),
+        5..8 => take_delete(alloc, rt, store, plain, key),
+        8..10 => check_get(alloc, rt, store, plain, &key),
+        _ => take_erase(alloc, rt, store, plain, dice),
     }
 }
 
-// Ten lines.
-fn take_lines(
-    alloc: Global,
-    store: &mut Store<MemDisk>,
-    plain: &mut Plain,
-    dice: &mut Dice,
-) -> Result<(), Fail> {
-    for _ in 0..10 {
-        if !take_line(alloc, store, plain, dice)? {
-            return Err(Fail::new("another answer"));
-        }
-    }
-    Ok(())
-}
-
-// Ten lines and a tick.
+// Ten lines and a tick. Ticks that are far apart find erases due in files that weren't merged since.
 fn take_part(
     alloc: Global,
+    rt: &impl Abort,
     store: &mut Store<MemDisk>,
     plain: &mut Plain,
     dice: &mut Dice,
-) -> Result<(), Fail> {
-    take_lines(alloc, store, plain, dice)?;
-    // Ticks that are far apart find erases due in files that weren't merged since.
-    let most = if plain.erases { 150 } else { 60 };
-    let to = plain.clock.saturating_add(dice.below(most) as u64);
-    let ticked = store.must_tick(alloc, to)?;
-    if ticked.place != plain.tick(to)? || ticked.clock != to {
-        return Err(Fail::new("another tick"));
+) {
+    for _ in 0..10 {
+        take_line(alloc, rt, store, plain, dice);
     }
-    Ok(())
+    let to = plain.clock.saturating_add(dice.below(150) as u64);
+    let ticked = store.must_tick(alloc, rt, to);
+    assert!(rt; (ticked.place, ticked.clock) == (plain.tick(rt, to), to));
 }
 
-// Whether the pairs of a scan of all keys are what the map has.
-fn are_told(alloc: Global, plain: &Plain, pairs: &[(Key, u64, Value)]) -> Result<bool, Fail> {
-    let mut place: usize = 0;
-    for (key, held) in plain.map.iter() {
-        let Some((other, dkey, value)) = pairs.get(place) else {
-            return Ok(false);
-        };
-        if other.bytes() != key.as_bytes() || !is_told(alloc, *held, *dkey, value)? {
-            return Ok(false);
-        }
-        place = place.saturating_add(1);
-    }
-    Ok(place == pairs.len())
-}
-
-// Fails where a scan of all keys tells something else than the map has.
-fn must_scan_as(alloc: Global, store: &mut Store<MemDisk>, plain: &Plain) -> Result<(), Fail> {
-    let pairs = store.scan(alloc, "a", "f")?;
-    if are_told(alloc, plain, &pairs)? {
-        Ok(())
-    } else {
-        Err(Fail::new("another scan"))
-    }
-}
-
-// One more part over a store that tells what the map has.
-fn take_next_part(
-    alloc: Global,
-    store: &mut Store<MemDisk>,
-    plain: &mut Plain,
-    dice: &mut Dice,
-) -> Result<(), Fail> {
-    must_scan_as(alloc, store, plain)?;
-    take_part(alloc, store, plain, dice)
-}
-
-// The same over the disk, which is opened.
-fn take_opened(
-    alloc: Global,
-    disk: MemDisk,
-    plain: &mut Plain,
-    dice: &mut Dice,
-) -> Result<MemDisk, Fail> {
-    let mut store = Store::opened(alloc, disk)?;
-    let taken = take_next_part(alloc, &mut store, plain, dice);
-    let disk = store.into_disk();
-    taken?;
-    Ok(disk)
-}
-
-// So many parts of the script of a seed, and what the store has to hold behind them.
-fn take_parts(
-    alloc: Global,
-    store: &mut Store<MemDisk>,
-    seed: u64,
-    parts: usize,
-) -> Result<Plain, Fail> {
-    let mut dice = Dice::new(seed);
-    let mut plain = Plain::new(alloc, seed % 2 == 1);
+// What the store has to hold behind so many parts.
+fn take_parts(alloc: Global, rt: &impl Abort, store: &mut Store<MemDisk>, parts: usize) -> Plain {
+    let mut dice = Dice::new(1);
+    let mut plain = Plain::new(alloc);
     for _ in 0..parts {
-        take_part(alloc, store, &mut plain, &mut dice)?;
+        take_part(alloc, rt, store, &mut plain, &mut dice);
     }
-    Ok(plain)
+    plain
 }
 
-// The disk behind them.
-fn behind(alloc: Global, seed: u64, parts: usize) -> Result<(MemDisk, Plain), Fail> {
-    let mut store = Store::opened(alloc, roomy_disk(alloc)?)?;
-    let plain = take_parts(alloc, &mut store, seed, parts);
-    let disk = store.into_disk();
-    Ok((disk, plain?))
+// Whether none of the puts was erased a threshold before the clock, or longer ago.
+fn are_in_time(plain: &Plain, puts: &[u64]) -> bool {
+    puts.iter()
+        .all(|place| !plain.is_overdue(*place, plain.clock))
 }
 
-// Whether no object holds a put that was erased a threshold before a time, or longer ago.
-fn holds_nothing_overdue(
-    alloc: Global,
-    disk: &mut MemDisk,
-    plain: &Plain,
-    time: u64,
-) -> Result<bool, Fail> {
-    let held = held_by(alloc, disk)?;
-    Ok(
-        held.puts
-            .iter()
-            .all(|place| !plain.is_overdue(*place, time)),
-    )
+// Behind so many parts no object holds a put that was erased a threshold before the clock, or longer ago.
+fn check_behind(alloc: Global, rt: &impl Abort, parts: usize) {
+    let mut store = Store::opened(alloc, rt, new_disk(alloc, rt));
+    let plain = take_parts(alloc, rt, &mut store, parts);
+    let held = held_on(alloc, rt, &mut store.into_disk());
+    assert!(rt; are_in_time(&plain, &held.puts), "behind {parts} parts");
 }
 
 #[test]
-fn behind_each_tick_no_object_holds_what_was_erased_a_threshold_ago(
-    rt: HostRuntime,
-) -> Result<(), Fail> {
-    let alloc = rt.alloc();
-    for seed in 0..30 {
-        for parts in 1..7 {
-            let (mut disk, plain) = behind(alloc, seed, parts)?;
-            assert!(rt; holds_nothing_overdue(alloc, &mut disk, &plain, plain.clock)?);
-        }
+fn behind_each_tick_no_object_holds_what_was_erased_a_threshold_ago(rt: HostRuntime) {
+    for parts in 1..31 {
+        check_behind(rt.alloc(), &rt, parts);
     }
-    Ok(())
-}
-
-// Runs the script of a seed with an opening in front of each part, and searches the objects behind each of them.
-fn is_opened_again(alloc: Global, seed: u64, parts: usize) -> Result<(), Fail> {
-    let mut dice = Dice::new(seed);
-    let mut plain = Plain::new(alloc, seed % 2 == 1);
-    let mut disk = roomy_disk(alloc)?;
-    for _ in 0..parts {
-        disk = take_opened(alloc, disk, &mut plain, &mut dice)?;
-        if !holds_nothing_overdue(alloc, &mut disk, &plain, plain.clock)? {
-            return Err(Fail::new(format_args!("seed {seed}: an overdue put")));
-        }
-    }
-    Ok(())
-}
-
-#[test]
-fn a_store_that_is_opened_again_and_again_tells_what_the_map_has(
-    rt: HostRuntime,
-) -> Result<(), Fail> {
-    for seed in 0..30 {
-        is_opened_again(rt.alloc(), seed, 10)?;
-    }
-    Ok(())
-}
-
-// Opens an image. What it holds then was not erased a threshold before its clock, which is not later than that of the map.
-fn is_image_clean(alloc: Global, image: MemDisk, plain: &Plain) -> Result<bool, Fail> {
-    let store = Store::opened(alloc, image)?;
-    let clock = store.clock();
-    let is_clean = holds_nothing_overdue(alloc, &mut store.into_disk(), plain, clock)?;
-    Ok(is_clean && clock <= plain.clock)
-}
-
-// Opens each image that a crash after so many calls leaves.
-fn are_images_clean(alloc: Global, disk: &MemDisk, plain: &Plain, calls: u64) -> Result<bool, Fail>
-    requires { calls ≤ calls_of disk.now }
-{
-    for image in &IMAGES {
-        if !is_image_clean(alloc, image_of(disk, calls, *image)?, plain)? {
-            return Ok(false);
-        }
-    }
-    Ok(true)
-}
-
-#[test]
-fn no_image_that_is_opened_to_a_tick_holds_an_overdue_put(rt: HostRuntime) -> Result<(), Fail> {
-    let alloc = rt.alloc();
-    for seed in 0..2 {
-        let (mut disk, plain) = behind(alloc, seed, 3)?;
-        take_calls(alloc, &mut disk, 400)?;
-        for calls in 0..400 {
-            assert!(rt;
-                are_images_clean(alloc, &disk, &plain, calls)?,
-                "{calls} calls"
-            );
-        }
-    }
-    Ok(())
 }

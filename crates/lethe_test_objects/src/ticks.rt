@@ -1,13 +1,13 @@
 //! Rows of changes and ticks, and what the disk holds behind them.
 
-use crate::common::{Ask, Store};
-use lethe_base::{Kind, MAX_TIME, Refused};
+use crate::common::{Ask, Store, held_on, must, new_disk};
+use lethe_base::{Kind, MAX_TIME, Name, Refused};
 use lethe_engine::Ticked;
-use lethe_images::{Held, held_by, objects_of, roomy_disk};
+use lethe_images::{Held, objects_of};
 use lethe_memdisk::MemDisk;
 use sha2::{Digest, Sha256};
 use std::alloc::Global;
-use std::test::Fail;
+use std::process::Abort;
 
 /// What is answered.
 #[derive(Clone, Copy, PartialEq, Eq)]
@@ -137,37 +137,33 @@ const ROWS: [Row; 6] = [
     },
 ];
 
+fn of_tick(rt: &impl Abort, answer: Result<Ticked, Refused>) -> Told {
+    match answer {
+        Ok(ticked) => {
+            let certified = ticked.certificate.map(|is| (is.number, is.before));
+            Told::Ticked(ticked.place, ticked.clock, certified)
+        }
+        Err(Refused::Backwards { clock }) => Told::Backwards(clock),
+        Err(why) => panic!(rt; "{why:?}"),
+    }
+}
+
 /// Makes the call, and tells what is answered.
-fn told_of(alloc: Global, store: &mut Store<MemDisk>, ask: Ask) -> Result<Told, Fail> {
-    let Ask::Tick(to) = ask else {
-        return Ok(Told::Place(store.answer(alloc, ask)??));
-    };
-    match store.tick(alloc, to)? {
-        Ok(ticked) => Ok(Told::Ticked(
-            ticked.place,
-            ticked.clock,
-            ticked.certificate.map(|is| (is.number, is.before)),
-        )),
-        Err(Refused::Backwards { clock }) => Ok(Told::Backwards(clock)),
-        Err(_) => Err(Fail::new("another refusal")),
+fn told_of(alloc: Global, rt: &impl Abort, store: &mut Store<MemDisk>, ask: Ask) -> Told {
+    match ask {
+        Ask::Tick(to) => of_tick(rt, store.tick(alloc, rt, to)),
+        _ => Told::Place(store.answer(alloc, rt, ask).expect(rt, "a place")),
     }
 }
 
-/// What is answered to these.
-fn answers(alloc: Global, store: &mut Store<MemDisk>, asks: &[Ask]) -> Result<Vec<Told>, Fail> {
-    let mut told = Vec::new(alloc);
-    for ask in asks {
-        told.push(told_of(alloc, store, *ask)?)?;
+/// A new store has to answer that, and its disk to hold what is left then.
+fn check_row(alloc: Global, rt: &impl Abort, row: &Row) {
+    let mut store = Store::opened(alloc, rt, new_disk(alloc, rt));
+    for (ask, told) in row.asks.iter().zip(row.told) {
+        assert!(rt; told_of(alloc, rt, &mut store, *ask) == *told);
     }
-    Ok(told)
-}
-
-/// What a new store answers to these, and what its disk holds then.
-fn told_and_held(alloc: Global, asks: &[Ask]) -> Result<(Vec<Told>, Held), Fail> {
-    let mut store = Store::opened(alloc, roomy_disk(alloc)?)?;
-    let told = answers(alloc, &mut store, asks);
-    let mut disk = store.into_disk();
-    Ok((told?, held_by(alloc, &mut disk)?))
+    let held = held_on(alloc, rt, &mut store.into_disk());
+    assert!(rt; is_left(&row.left, &held));
 }
 
 fn is_left(left: &Left, held: &Held) -> bool {
@@ -177,63 +173,45 @@ fn is_left(left: &Left, held: &Held) -> bool {
 }
 
 #[test]
-fn ticks_leave_what_may_be_there(rt: HostRuntime) -> Result<(), Fail> {
-    let alloc = rt.alloc();
+fn ticks_leave_what_may_be_there(rt: HostRuntime) {
     for row in &ROWS {
-        let (told, held) = told_and_held(alloc, row.asks)?;
-        assert!(rt; told.as_slice() == row.told);
-        assert!(rt; is_left(&row.left, &held));
-    }
-    Ok(())
-}
-
-/// Makes two ticks at the threshold, and answers the second. The store has kept the certificates of both.
-fn certify_twice(alloc: Global, store: &mut Store<MemDisk>) -> Result<Ticked, Fail> {
-    let first = store.must_tick(alloc, 100)?;
-    let second = store.must_tick(alloc, 100)?;
-    if store.has_certified(&first, &second) {
-        Ok(second)
-    } else {
-        Err(Fail::new("other certificates"))
+        check_row(rt.alloc(), &rt, row);
     }
 }
 
-/// The same over a new store, with its disk behind them.
-fn certified_twice(alloc: Global) -> Result<(Ticked, MemDisk), Fail> {
-    let mut store = Store::opened(alloc, roomy_disk(alloc)?)?;
-    let second = certify_twice(alloc, &mut store);
-    let disk = store.into_disk();
-    Ok((second?, disk))
+/// Makes two ticks at the threshold over a new store, and answers the second with the disk behind it. The store has kept the certificates of both.
+fn certified_twice(alloc: Global, rt: &impl Abort) -> (Ticked, MemDisk) {
+    let mut store = Store::opened(alloc, rt, new_disk(alloc, rt));
+    let first = store.must_tick(alloc, rt, 100);
+    let second = store.must_tick(alloc, rt, 100);
+    assert!(rt; store.has_certified(&first, &second));
+    (second, store.into_disk())
 }
 
-/// The digest of the manifest that counts, and how many certificates the store has kept.
-#[test]
-fn a_certificate_has_the_digest_of_the_manifest(rt: HostRuntime) -> Result<(), Fail> {
-    let (ticked, mut disk) = certified_twice(rt.alloc())?;
-    let certificate = ticked.certificate.ok_or("a certificate")?;
-    assert!(rt; (certificate.number, certificate.clock, certificate.before) == (2, 100, 0));
-    assert!(rt; manifest_digest(rt.alloc(), &mut disk)? == certificate.digest);
-    Ok(())
+fn digest_of(bytes: &[u8]) -> [u8; 32] {
+    let mut hasher = Sha256::new();
+    hasher.update(bytes);
+    hasher.finalize()
 }
 
 /// The digest of the one manifest.
-fn manifest_digest(alloc: Global, disk: &mut MemDisk) -> Result<[u8; 32], Fail> {
-    let manifests = manifests_of(alloc, disk)?;
-    let [bytes] = manifests.as_slice() else {
-        return Err(Fail::new("one manifest"));
-    };
-    let mut hasher = Sha256::new();
-    hasher.update(bytes);
-    Ok(hasher.finalize())
+fn manifest_digest(alloc: Global, rt: &impl Abort, disk: &mut MemDisk) -> [u8; 32] {
+    let objects = must(rt, objects_of(alloc, disk));
+    let mut manifests = objects.iter().filter(|object| is_manifest(object));
+    let (_, bytes) = manifests.next().expect(rt, "a manifest");
+    let digest = digest_of(bytes);
+    assert!(rt; manifests.next().is_none());
+    digest
 }
 
-/// The bytes of the manifests.
-fn manifests_of(alloc: Global, disk: &mut MemDisk) -> Result<Vec<Vec<u8>>, Fail> {
-    let mut manifests = Vec::new(alloc);
-    for (name, bytes) in objects_of(alloc, disk)? {
-        if name.kind == Kind::Manifest {
-            manifests.push(bytes)?;
-        }
-    }
-    Ok(manifests)
+fn is_manifest(object: &(Name, Vec<u8>)) -> bool {
+    object.0.kind == Kind::Manifest
+}
+
+#[test]
+fn a_certificate_has_the_digest_of_the_manifest(rt: HostRuntime) {
+    let (ticked, mut disk) = certified_twice(rt.alloc(), &rt);
+    let certificate = ticked.certificate.expect(&rt, "a certificate");
+    assert!(rt; (certificate.number, certificate.clock, certificate.before) == (2, 100, 0));
+    assert!(rt; manifest_digest(rt.alloc(), &rt, &mut disk) == certificate.digest);
 }

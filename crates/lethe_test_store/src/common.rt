@@ -3,16 +3,15 @@ ghost use Rattle.std.specs.Prelude.{IfOk};
 ghost use Rattle.lethe_core.specs.Running.{IsSound};
 ghost use Rattle.lethe_core.specs.View.{view_of};
 
-use lethe_base::{Config, Fields, Key, Pick, Shape, Value};
+use lethe_base::{Config, Fields, Key, Pick, Value};
 use lethe_disk::Disk;
 use lethe_drive::Engine;
-use lethe_fade::{Claim, Plan, pick, pick_due};
 use lethe_memdisk::MemDisk;
 use std::alloc::Global;
 use std::test::Fail;
 
-/// A small configuration, whose level 1 is saturated by more than 16 entries.
-pub const SMALL: Fields = Fields {
+/// A small configuration.
+const SMALL: Fields = Fields {
     threshold: 100,
     ratio: 2,
     levels: 2,
@@ -23,7 +22,7 @@ pub const SMALL: Fields = Fields {
     pick: Pick::So,
 };
 
-pub fn config_of(fields: Fields) -> Result<Config, Fail> {
+fn config_of(fields: Fields) -> Result<Config, Fail> {
     Ok(Config::new(fields)?)
 }
 
@@ -38,29 +37,6 @@ pub fn value_of(alloc: Global, text: &str) -> Result<Value, Fail> {
 /// An empty disk, none of whose calls fails.
 pub fn empty_disk(alloc: Global) -> Result<MemDisk, Fail> {
     Ok(MemDisk::new(alloc, 1000, Vec::new(alloc))?)
-}
-
-/// A file, and the place of an erase where it is swept.
-pub type Named = Option<(u64, Option<u64>)>;
-
-fn named_by(plan: Option<Plan>) -> Named {
-    plan.map(|plan| (plan.file, plan.erase))
-}
-
-/// What `pick` and `pick_due` name at a clock, of a shape of levels 0 to 2.
-pub fn picked(
-    shape: &Shape,
-    fields: Fields,
-    claims: &[Claim],
-    clock: u64,
-) -> Result<(Named, Named), Fail> {
-    let config = config_of(fields)?;
-    if shape.levels.items().len() as u64 != config.fields().levels + 1 {
-        return Err(Fail::from("a list for each level"));
-    }
-    let picked = named_by(pick(shape, &config, clock, claims));
-    let due = named_by(pick_due(shape, &config, clock));
-    Ok((picked, due))
 }
 
 /// A store of the small configuration.

@@ -1,4 +1,4 @@
-//! Tests of a store's calls, from the choice of a merge up to whole runs of events.
+//! Tests of a store's calls, and of whole runs of events.
 #![tactic(auto)]
 
 #[cfg(test)]
@@ -7,13 +7,3 @@ mod common;
 mod drive;
 #[cfg(test)]
 mod engine;
-#[cfg(test)]
-mod fade;
-#[cfg(test)]
-mod flush;
-#[cfg(test)]
-mod recover;
-#[cfg(test)]
-mod state;
-#[cfg(test)]
-mod sweeps;

@@ -1,7 +1,7 @@
-//! Generated scripts whose disk is stopped at each device call, crashed, and run over again.
+//! A generated script whose disk is stopped at each device call, crashed, and run over again.
 
 use lethe_disk::Disk;
-use lethe_generated::{Generated, Lines, READ_AND_PUT};
+use lethe_generated::{Generated, READ_AND_PUT};
 use lethe_images::{IMAGES, image_of, roomy_disk, take_calls};
 use lethe_memdisk::MemDisk;
 use lethe_rows::{Printed, count_lines, done_lines};
@@ -24,18 +24,13 @@ impl Owed {
     }
 }
 
-// Makes the runs one after another, until the disk fails.
-fn run_all(
-    alloc: Global,
-    made: &Generated,
-    runs: &[Lines],
-    mut disk: MemDisk,
-) -> Result<(Owed, MemDisk), Fail> {
+// Runs the parts one after another, until the disk fails.
+fn run_all(alloc: Global, made: &Generated, mut disk: MemDisk) -> Result<(Owed, MemDisk), Fail> {
     let mut owed = Owed {
         done: 0,
         failed: false,
     };
-    for lines in runs {
+    for lines in &made.parts {
         if disk.faults() == 0 {
             let left = made.run(alloc, &lines.script, disk)?;
             owed.add(&left.printed.text);
@@ -112,49 +107,30 @@ fn all_go_on(
 }
 
 // Stops the disk behind so many device calls, and sees that each disk that a crash may leave goes on. Whether a call failed.
-fn is_stopped(alloc: Global, made: &Generated, runs: &[Lines], calls: u64) -> Result<bool, Fail> {
+fn is_stopped(alloc: Global, made: &Generated, calls: u64) -> Result<bool, Fail> {
     let mut disk = roomy_disk(alloc)?;
     disk.fuse(calls);
-    let (owed, disk) = run_all(alloc, made, runs, disk)?;
+    let (owed, disk) = run_all(alloc, made, disk)?;
     let is_stopped = disk.faults() != 0;
     all_go_on(alloc, made, owed, disk, calls)?;
     Ok(is_stopped)
 }
 
 // Stops the disk behind each number of device calls that the runs take, and counts these.
-pub(crate) fn stop_at_each(alloc: Global, made: &Generated, runs: &[Lines]) -> Result<u64, Fail> {
+fn stop_at_each(alloc: Global, made: &Generated) -> Result<u64, Fail> {
     for calls in 0..5_000 {
-        if !is_stopped(alloc, made, runs, calls)? {
+        if !is_stopped(alloc, made, calls)? {
             return Ok(calls);
         }
     }
     Err(Fail::new("too many calls"))
 }
 
-// The same of the script in one run, and opened again for each part. The lesser of the two counts.
-fn stop_both(alloc: Global, made: &Generated) -> Result<u64, Fail> {
-    let whole = vec![in alloc; made.whole(alloc)?]?;
-    let at_once = stop_at_each(alloc, made, &whole)?;
-    Ok(at_once.min(stop_at_each(alloc, made, &made.parts)?))
-}
-
 #[test]
-fn a_generated_script_that_is_stopped_loses_nothing_that_was_answered(
+fn a_generated_script_with_pins_that_is_stopped_loses_nothing_that_was_answered(
     rt: HostRuntime,
 ) -> Result<(), Fail> {
-    let alloc = rt.alloc();
-    // Of `so` with many keys, and of `sd` with few.
-    for seed in [14, 25] {
-        assert!(rt; stop_both(alloc, &Generated::of(alloc, seed, 4)?)? > 300);
-    }
-    Ok(())
-}
-
-#[test]
-fn a_generated_script_with_erases_that_is_stopped_loses_nothing_that_was_answered(
-    rt: HostRuntime,
-) -> Result<(), Fail> {
-    let alloc = rt.alloc();
-    assert!(rt; stop_both(alloc, &Generated::erasing(alloc, 14, 4)?)? > 200);
+    let made = Generated::pinning(rt.alloc(), 14, 4)?;
+    assert!(rt; stop_at_each(rt.alloc(), &made)? > 100);
     Ok(())
 }

@@ -4,7 +4,7 @@ use crate::common::{Named, SMALL, key_of, picked};
 use lethe_base::{FileFacts, List, Pending, Range, Shape};
 use lethe_fade::Claim;
 use std::alloc::Global;
-use std::test::Fail;
+use std::process::Abort;
 
 /// A file's level, number, keys, oldest time, tombstones, and the place up to which it is swept.
 type FileRow = (u64, u64, &'static str, &'static str, Option<u64>, u64, u64);
@@ -22,73 +22,84 @@ type Row = (
     Named,
 );
 
-fn level_of(alloc: Global, level: u64, rows: &[FileRow]) -> Result<List<FileFacts>, Fail> {
+fn facts_of(alloc: Global, rt: &impl Abort, row: &FileRow) -> FileFacts {
+    let (level, no, lo, hi, oldest, tombs, swept) = *row;
+    FileFacts {
+        no,
+        level,
+        lo: key_of(alloc, rt, lo),
+        hi: key_of(alloc, rt, hi),
+        oldest,
+        tombs,
+        entries: 4,
+        max_seq: 0,
+        swept,
+    }
+}
+
+fn level_of(alloc: Global, rt: &impl Abort, level: u64, rows: &[FileRow]) -> List<FileFacts> {
     let mut files = Vec::new(alloc);
-    for (at, no, lo, hi, oldest, tombs, swept) in rows {
-        if *at == level {
-            files.push(FileFacts {
-                no: *no,
-                level,
-                lo: key_of(alloc, lo)?,
-                hi: key_of(alloc, hi)?,
-                oldest: *oldest,
-                tombs: *tombs,
-                entries: 4,
-                max_seq: 0,
-                swept: *swept,
-            })?;
+    for row in rows {
+        if row.0 == level {
+            files.push(facts_of(alloc, rt, row)).expect(rt, "memory");
         }
     }
-    Ok(List::of(files))
+    List::of(files)
 }
 
-fn erases_of(alloc: Global, rows: &[(u64, u64)]) -> Result<List<Pending>, Fail> {
+fn erases_of(alloc: Global, rt: &impl Abort, rows: &[(u64, u64)]) -> List<Pending> {
+    let range = Range::new(10, 20).expect(rt, "a range");
     let mut erases = Vec::new(alloc);
     for (seq, time) in rows {
-        erases.push(Pending {
-            seq: *seq,
-            time: *time,
-            range: Range::new(10, 20).ok_or("a range")?,
-        })?;
+        let (seq, time) = (*seq, *time);
+        erases
+            .push(Pending { seq, time, range })
+            .expect(rt, "memory");
     }
-    Ok(List::of(erases))
+    List::of(erases)
 }
 
-fn shape_of(alloc: Global, files: &[FileRow], erases: &[(u64, u64)]) -> Result<Shape, Fail> {
+fn shape_of(alloc: Global, rt: &impl Abort, files: &[FileRow], erases: &[(u64, u64)]) -> Shape {
     let mut levels = Vec::new(alloc);
     for level in 0..3 {
-        levels.push(level_of(alloc, level, files)?)?;
+        levels
+            .push(level_of(alloc, rt, level, files))
+            .expect(rt, "memory");
     }
-    Ok(Shape {
+    Shape {
         levels: List::of(levels),
-        erases: erases_of(alloc, erases)?,
-    })
-}
-
-fn claims_of(alloc: Global, rows: &[ClaimRow]) -> Result<Vec<Claim>, Fail> {
-    let mut claims = Vec::new(alloc);
-    for (level, lo, hi) in rows {
-        claims.push(Claim {
-            first: *level,
-            last: *level,
-            lo: key_of(alloc, lo)?,
-            hi: key_of(alloc, hi)?,
-        })?;
+        erases: erases_of(alloc, rt, erases),
     }
-    Ok(claims)
 }
 
-/// What `pick` and `pick_due` name.
-fn named(
-    alloc: Global,
-    files: &[FileRow],
-    erases: &[(u64, u64)],
-    claimed: &[ClaimRow],
-    clock: u64,
-) -> Result<(Named, Named), Fail> {
-    let shape = shape_of(alloc, files, erases)?;
-    let claims = claims_of(alloc, claimed)?;
-    picked(&shape, SMALL, &claims, clock)
+fn claim_of(alloc: Global, rt: &impl Abort, row: &ClaimRow) -> Claim {
+    let (level, lo, hi) = *row;
+    Claim {
+        first: level,
+        last: level,
+        lo: key_of(alloc, rt, lo),
+        hi: key_of(alloc, rt, hi),
+    }
+}
+
+fn claims_of(alloc: Global, rt: &impl Abort, rows: &[ClaimRow]) -> Vec<Claim> {
+    let mut claims = Vec::new(alloc);
+    for row in rows {
+        claims.push(claim_of(alloc, rt, row)).expect(rt, "memory");
+    }
+    claims
+}
+
+/// What `pick` and `pick_due` have to name.
+fn check_row(alloc: Global, rt: &impl Abort, row: &Row) {
+    let (files, erases, claimed, clock, told, due) = *row;
+    let shape = shape_of(alloc, rt, files, erases);
+    let claims = claims_of(alloc, rt, claimed);
+    let named = picked(rt, &shape, SMALL, &claims, clock);
+    assert!(rt;
+        named == (told, due),
+        "{files:?} {erases:?} {claimed:?} {clock}"
+    );
 }
 
 /// One file of the last level.
@@ -200,12 +211,8 @@ const ROWS: [Row; 16] = [
 ];
 
 #[test]
-fn sweeps_are_picked_in_their_order(rt: HostRuntime) -> Result<(), Fail> {
-    let mut count: usize = 0;
-    for (files, erases, claims, clock, picked, due) in &ROWS {
-        count = count.saturating_add(1);
-        let got = named(rt.alloc(), *files, *erases, *claims, *clock)?;
-        assert!(rt; got == (*picked, *due), "row {count}");
+fn sweeps_are_picked_in_their_order(rt: HostRuntime) {
+    for row in &ROWS {
+        check_row(rt.alloc(), &rt, row);
     }
-    Ok(())
 }

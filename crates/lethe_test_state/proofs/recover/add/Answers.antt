@@ -6,7 +6,7 @@ use Rattle.lethe_disk.specs.Directory.{object}
 use Rattle.lethe_memdisk.specs.Held.{Held, seen_of}
 use Rattle.lethe_commit.proofs.Listed.{listed, found_decides}
 use Rattle.lethe_disk.proofs.Objects.{absent_of}
-use Rattle.lethe_test_store.proofs.recover.add.Goals as goal
+use Rattle.lethe_test_state.proofs.recover.add.Goals as goal
 
 pub create-requires : goal.create-requires
 create-requires c =

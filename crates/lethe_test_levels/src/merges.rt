@@ -4,7 +4,7 @@ use crate::common::{SMALL, config_of, key_of, picked};
 use lethe_base::{Fields, FileFacts, List, Pick, Shape};
 use lethe_fade::{Claim, cum};
 use std::alloc::Global;
-use std::test::Fail;
+use std::process::Abort;
 
 /// A file's level, number, keys, oldest time, tombstones and entries.
 type Row = (u64, u64, &'static str, &'static str, Option<u64>, u64, u64);
@@ -12,95 +12,105 @@ type Row = (u64, u64, &'static str, &'static str, Option<u64>, u64, u64);
 /// The first and the last level of a claim, and its keys.
 type ClaimRow = (u64, u64, &'static str, &'static str);
 
-fn level_of(alloc: Global, level: u64, rows: &[Row]) -> Result<List<FileFacts>, Fail> {
+fn facts_of(alloc: Global, rt: &impl Abort, row: &Row) -> FileFacts {
+    let (level, no, lo, hi, oldest, tombs, entries) = *row;
+    FileFacts {
+        no,
+        level,
+        lo: key_of(alloc, rt, lo),
+        hi: key_of(alloc, rt, hi),
+        oldest,
+        tombs,
+        entries,
+        max_seq: 0,
+        swept: 0,
+    }
+}
+
+fn level_of(alloc: Global, rt: &impl Abort, level: u64, rows: &[Row]) -> List<FileFacts> {
     let mut files = Vec::new(alloc);
-    for (at, no, lo, hi, oldest, tombs, entries) in rows {
-        if *at == level {
-            files.push(FileFacts {
-                no: *no,
-                level,
-                lo: key_of(alloc, lo)?,
-                hi: key_of(alloc, hi)?,
-                oldest: *oldest,
-                tombs: *tombs,
-                entries: *entries,
-                max_seq: 0,
-                swept: 0,
-            })?;
+    for row in rows {
+        if row.0 == level {
+            files.push(facts_of(alloc, rt, row)).expect(rt, "memory");
         }
     }
-    Ok(List::of(files))
+    List::of(files)
 }
 
-fn shape_of(alloc: Global, rows: &[Row]) -> Result<Shape, Fail> {
+fn shape_of(alloc: Global, rt: &impl Abort, rows: &[Row]) -> Shape {
     let mut levels = Vec::new(alloc);
     for level in 0..3 {
-        levels.push(level_of(alloc, level, rows)?)?;
+        levels
+            .push(level_of(alloc, rt, level, rows))
+            .expect(rt, "memory");
     }
-    Ok(Shape {
+    Shape {
         levels: List::of(levels),
         erases: List::of(Vec::new(alloc)),
-    })
+    }
 }
 
-fn claims_of(alloc: Global, rows: &[ClaimRow]) -> Result<Vec<Claim>, Fail> {
-    let mut claims = Vec::new(alloc);
-    for (first, last, lo, hi) in rows {
-        claims.push(Claim {
-            first: *first,
-            last: *last,
-            lo: key_of(alloc, lo)?,
-            hi: key_of(alloc, hi)?,
-        })?;
+fn claim_of(alloc: Global, rt: &impl Abort, row: &ClaimRow) -> Claim {
+    let (first, last, lo, hi) = *row;
+    Claim {
+        first,
+        last,
+        lo: key_of(alloc, rt, lo),
+        hi: key_of(alloc, rt, hi),
     }
-    Ok(claims)
+}
+
+fn claims_of(alloc: Global, rt: &impl Abort, rows: &[ClaimRow]) -> Vec<Claim> {
+    let mut claims = Vec::new(alloc);
+    for row in rows {
+        claims.push(claim_of(alloc, rt, row)).expect(rt, "memory");
+    }
+    claims
 }
 
 /// The files that `pick` and `pick_due` name at a clock, where the claims stand.
 fn named(
     alloc: Global,
+    rt: &impl Abort,
     fields: Fields,
     rows: &[Row],
     claimed: &[ClaimRow],
     clock: u64,
-) -> Result<(Option<u64>, Option<u64>), Fail> {
-    let shape = shape_of(alloc, rows)?;
-    let claims = claims_of(alloc, claimed)?;
-    let (picked, due) = picked(&shape, fields, &claims, clock)?;
-    Ok((picked.map(|named| named.0), due.map(|named| named.0)))
+) -> (Option<u64>, Option<u64>) {
+    let shape = shape_of(alloc, rt, rows);
+    let claims = claims_of(alloc, rt, claimed);
+    let (picked, due) = picked(rt, &shape, fields, &claims, clock);
+    (picked.map(|named| named.0), due.map(|named| named.0))
 }
 
 /// The file that is picked where nothing is expired.
 fn merged(
     alloc: Global,
+    rt: &impl Abort,
     order: Pick,
     rows: &[Row],
     claimed: &[ClaimRow],
-) -> Result<Option<u64>, Fail> {
+) -> Option<u64> {
     let fields = Fields {
         pick: order,
         ..SMALL
     };
-    Ok(named(alloc, fields, rows, claimed, 0)?.0)
+    named(alloc, rt, fields, rows, claimed, 0).0
 }
 
-/// The time of each level of a configuration, from level 0 on.
-fn times_of(alloc: Global, fields: Fields) -> Result<Vec<u64>, Fail> {
-    let config = config_of(fields)?;
-    let mut times = Vec::new(alloc);
-    for level in 0..config.fields().levels {
-        times.push(cum(&config, level))?;
+/// The levels of a configuration have to have these times, from level 0 on.
+fn check_times(rt: &impl Abort, fields: Fields, times: &[u64]) {
+    let config = config_of(rt, fields);
+    assert!(rt; config.fields().levels == times.len() as u64);
+    for (level, time) in times.iter().enumerate() {
+        assert!(rt; cum(&config, level as u64) == *time);
     }
-    Ok(times)
 }
 
 #[test]
-fn the_time_of_a_level_is_its_part_of_the_threshold(rt: HostRuntime) -> Result<(), Fail> {
-    let default = times_of(rt.alloc(), Fields::default())?;
-    assert!(rt; default.as_slice() == [47, 238, 1000].as_slice());
-    let small = times_of(rt.alloc(), SMALL)?;
-    assert!(rt; small.as_slice() == [33, 100].as_slice());
-    Ok(())
+fn the_time_of_a_level_is_its_part_of_the_threshold(rt: HostRuntime) {
+    check_times(&rt, Fields::default(), &[47, 238, 1000]);
+    check_times(&rt, SMALL, &[33, 100]);
 }
 
 /// A single file of level 0.
@@ -128,12 +138,11 @@ const PICKS: [(Pick, &[Row], &[ClaimRow], Option<u64>); 9] = [
 ];
 
 #[test]
-fn level_0_is_merged_from_as_many_files_as_the_ratio(rt: HostRuntime) -> Result<(), Fail> {
+fn level_0_is_merged_from_as_many_files_as_the_ratio(rt: HostRuntime) {
     for (order, files, claims, file) in PICKS {
-        let got = merged(rt.alloc(), order, files, claims)?;
+        let got = merged(rt.alloc(), &rt, order, files, claims);
         assert!(rt; got == file, "{order:?} {claims:?}");
     }
-    Ok(())
 }
 
 /// The entries of the two files of level 1, those of the last level, and what is picked.
@@ -146,17 +155,16 @@ const SATURATIONS: [(u64, u64, u64, Option<u64>); 5] = [
 ];
 
 #[test]
-fn a_deeper_level_is_saturated_by_its_entries(rt: HostRuntime) -> Result<(), Fail> {
+fn a_deeper_level_is_saturated_by_its_entries(rt: HostRuntime) {
     for (first, second, deepest, file) in SATURATIONS {
         let files: [Row; 3] = [
             (1, 9, "a", "c", None, 0, first),
             (1, 4, "d", "f", None, 0, second),
             (2, 1, "f", "h", None, 0, deepest),
         ];
-        let got = merged(rt.alloc(), Pick::So, &files, &[])?;
+        let got = merged(rt.alloc(), &rt, Pick::So, &files, &[]);
         assert!(rt; got == file, "{first} {second} {deepest}");
     }
-    Ok(())
 }
 
 /// A file of level 1: its number, its oldest time, its tombstones, and the entries that lie below it.
@@ -183,17 +191,16 @@ fn files_of(first: Candidate, second: Candidate) -> [Row; 4] {
 }
 
 #[test]
-fn files_are_merged_in_the_order_of_the_configuration(rt: HostRuntime) -> Result<(), Fail> {
+fn files_are_merged_in_the_order_of_the_configuration(rt: HostRuntime) {
     for (first, second, so, sd) in ORDERS {
         let files = files_of(first, second);
-        let by_so = merged(rt.alloc(), Pick::So, &files, &[])?;
-        let by_sd = merged(rt.alloc(), Pick::Sd, &files, &[])?;
+        let by_so = merged(rt.alloc(), &rt, Pick::So, &files, &[]);
+        let by_sd = merged(rt.alloc(), &rt, Pick::Sd, &files, &[]);
         assert!(rt;
             (by_so, by_sd) == (Some(so), Some(sd)),
             "{first:?} {second:?}"
         );
     }
-    Ok(())
 }
 
 /// Level 0 comes first, then file 3, whose merge has the keys from `a` to `e`, then file 4 with those from `m` to `z`.
@@ -217,12 +224,11 @@ const CLAIMED: [(&[ClaimRow], Option<u64>); 6] = [
 ];
 
 #[test]
-fn a_claim_in_the_way_leaves_the_next_candidate(rt: HostRuntime) -> Result<(), Fail> {
+fn a_claim_in_the_way_leaves_the_next_candidate(rt: HostRuntime) {
     for (claims, file) in CLAIMED {
-        let got = merged(rt.alloc(), Pick::So, &CANDIDATES, claims)?;
+        let got = merged(rt.alloc(), &rt, Pick::So, &CANDIDATES, claims);
         assert!(rt; got == file, "{claims:?}");
     }
-    Ok(())
 }
 
 /// A file of each level whose time is 10, and one of level 0 that has none.
@@ -281,13 +287,12 @@ const AGES: [(u64, &[Row], u64, Option<u64>, Option<u64>); 20] = [
 ];
 
 #[test]
-fn a_file_is_due_when_the_time_of_its_level_is_over(rt: HostRuntime) -> Result<(), Fail> {
+fn a_file_is_due_when_the_time_of_its_level_is_over(rt: HostRuntime) {
     for (threshold, files, clock, picked, due) in AGES {
         let fields = Fields { threshold, ..SMALL };
-        let got = named(rt.alloc(), fields, files, &[], clock)?;
+        let got = named(rt.alloc(), &rt, fields, files, &[], clock);
         assert!(rt; got == (picked, due), "{threshold} {files:?} {clock}");
     }
-    Ok(())
 }
 
 /// Two expired files of a level, with a number, a time and tombstones, and the one that comes first.
@@ -298,21 +303,20 @@ const TIES: [((u64, u64, u64), (u64, u64, u64), u64); 3] = [
 ];
 
 #[test]
-fn expired_files_come_by_time_then_tombstones_then_number(rt: HostRuntime) -> Result<(), Fail> {
+fn expired_files_come_by_time_then_tombstones_then_number(rt: HostRuntime) {
     for (first, second, file) in TIES {
         for level in 0..2 {
             let files: [Row; 2] = [
                 (level, first.0, "a", "c", Some(first.1), first.2, 8),
                 (level, second.0, "d", "f", Some(second.1), second.2, 4),
             ];
-            let got = named(rt.alloc(), SMALL, &files, &[], 1000)?;
+            let got = named(rt.alloc(), &rt, SMALL, &files, &[], 1000);
             assert!(rt;
                 got == (Some(file), Some(file)),
                 "{level} {first:?} {second:?}"
             );
         }
     }
-    Ok(())
 }
 
 /// All of these files are expired. The merge of level 0 has the keys from `a` to `p`, whichever file it is for.
@@ -332,10 +336,9 @@ const STANDING: [(&[ClaimRow], Option<u64>); 4] = [
 ];
 
 #[test]
-fn claims_hold_back_what_is_picked_but_not_what_is_due(rt: HostRuntime) -> Result<(), Fail> {
+fn claims_hold_back_what_is_picked_but_not_what_is_due(rt: HostRuntime) {
     for (claims, picked) in STANDING {
-        let got = named(rt.alloc(), SMALL, &EXPIRED, claims, 1000)?;
+        let got = named(rt.alloc(), &rt, SMALL, &EXPIRED, claims, 1000);
         assert!(rt; got == (picked, Some(6)), "{claims:?}");
     }
-    Ok(())
 }
