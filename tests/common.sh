@@ -54,3 +54,45 @@ listing() {
 # all: the line that reads every key of these scripts.
 # shellcheck disable=SC2034
 all='1 scan ! ~'
+
+# refused_words: words that the program and `./lethe` refuse before anything is touched, and the reason that is said of them, a row each.
+refused_words() {
+    cat <<'END'
+data|behind the folder stands the command run: ./lethe DIR run < SCRIPT
+run|behind the folder stands the command run: ./lethe DIR run < SCRIPT
+run data|behind the folder stands the command run: ./lethe DIR run < SCRIPT
+''|behind the folder stands the command run: ./lethe DIR run < SCRIPT
+data -h|behind the folder stands the command run: ./lethe DIR run < SCRIPT
+data --version|behind the folder stands the command run: ./lethe DIR run < SCRIPT
+data help|behind the folder stands the command run: ./lethe DIR run < SCRIPT
+data get a|behind the folder stands the command run: ./lethe DIR run < SCRIPT
+data --quiet run|behind the folder stands the command run: ./lethe DIR run < SCRIPT
+data run --none 4|--none is no option: ./lethe --help lists them
+data run --quiet 4|--quiet is no option: ./lethe --help lists them
+data run 4|4 is no option: ./lethe --help lists them
+data run ''|? is no option: ./lethe --help lists them
+data run "--no$(printf '\n\t\033')e" 4|--no???e is no option: ./lethe --help lists them
+data run --ratio|--ratio has no value
+data run --ratio 4 --ratio 4|--ratio is given twice
+data run --ratio abc|--ratio abc: --ratio is a number from 2 to 16
+data run --ratio 1|--ratio 1: --ratio is a number from 2 to 16
+data run --ratio 17|--ratio 17: --ratio is a number from 2 to 16
+data run --ratio -5|--ratio -5: --ratio is a number from 2 to 16
+data run --ratio 30d|--ratio 30d: --ratio is a number from 2 to 16
+data run --ratio 0|--ratio 0: --ratio is a number from 2 to 16
+data run --ratio 05|--ratio 05: --ratio is a number from 2 to 16
+data run --ratio ''|--ratio : --ratio is a number from 2 to 16
+data run --threshold 30d|--threshold 30d: --threshold is a number from 1 to 1099511627776
+data run --threshold 99999999999999999999|--threshold 99999999999999999999: --threshold is a number from 1 to 1099511627776
+data run --threshold 1099511627777|--threshold 1099511627777: --threshold is a number from 1 to 1099511627776
+data run --levels 7|--levels 7: --levels is a number from 1 to 6
+data run --page 1025|--page 1025: --page is a number from 1 to 1024
+data run --tile 65|--tile 65: --tile is a number from 1 to 64
+data run --file 257|--file 257: --file is a number from 1 to 256
+data run --buffer 16385|--buffer 16385: --buffer is a number from 1 to 16384
+data run --pick xx|--pick xx: --pick is so or sd
+data run --page 4|--page 4: the buffer's 512 is more than 4 x 4 x 8
+data run --page 1024 --tile 64 --file 2|--page 1024 --tile 64 --file 2: a file's 1024 x 64 x 2 entries are more than 65536
+data run --buffer 2049 --page 64|--page 64 --buffer 2049: the buffer's 2049 is more than 64 x 4 x 8
+END
+}

@@ -62,19 +62,8 @@ calls=0
 path=$work/bin:$PATH
 
 # Words that are refused before anything is built, each with its reason.
-while IFS='|' read -r line reason; do
-    eval "call $line"
-    went 2 'bad words\n' "lethe: $reason (status 2: ./lethe --help)\n"
-    eval "call --quiet $line"
-    went 2 'bad words\n' ''
-done <<'END'
-data|behind the folder stands the command run: ./lethe DIR run < SCRIPT
-run|behind the folder stands the command run: ./lethe DIR run < SCRIPT
-run data|behind the folder stands the command run: ./lethe DIR run < SCRIPT
-data -h|behind the folder stands the command run: ./lethe DIR run < SCRIPT
-data --version|behind the folder stands the command run: ./lethe DIR run < SCRIPT
-data help|behind the folder stands the command run: ./lethe DIR run < SCRIPT
-data get a|behind the folder stands the command run: ./lethe DIR run < SCRIPT
+refused_words >"$work/rows"
+cat >>"$work/rows" <<'END'
 data --existing run|behind the folder stands the command run: ./lethe DIR run < SCRIPT
 -x run|-x is no folder and no option of this command: ./lethe --help lists them
 --help run|--help is no folder and no option of this command: ./lethe --help lists them
@@ -82,28 +71,15 @@ data --existing run|behind the folder stands the command run: ./lethe DIR run < 
 --existing|there is no folder: ./lethe DIR run < SCRIPT
 --existing --existing data run|--existing is given twice
 --existing nowhere get a|behind the folder stands the command run: ./lethe DIR run < SCRIPT
-data run --none 4|--none is no option: ./lethe --help lists them
-data run 4|4 is no option: ./lethe --help lists them
-data run ''|? is no option: ./lethe --help lists them
-data run "--no$(printf '\n\t\033')e" 4|--no???e is no option: ./lethe --help lists them
-data run --ratio|--ratio has no value
-data run --ratio 4 --ratio 4|--ratio is given twice
-data run --ratio abc|--ratio abc: --ratio is a number from 2 to 16
 data run --ratio 'a\nb'|--ratio a\\nb: --ratio is a number from 2 to 16
-data run --ratio 1|--ratio 1: --ratio is a number from 2 to 16
-data run --ratio 17|--ratio 17: --ratio is a number from 2 to 16
-data run --ratio -5|--ratio -5: --ratio is a number from 2 to 16
-data run --ratio 0|--ratio 0: --ratio is a number from 2 to 16
-data run --ratio 05|--ratio 05: --ratio is a number from 2 to 16
-data run --ratio ''|--ratio : --ratio is a number from 2 to 16
-data run --threshold 30d|--threshold 30d: --threshold is a number from 1 to 1099511627776
-data run --threshold 99999999999999999999|--threshold 99999999999999999999: --threshold is a number from 1 to 1099511627776
-data run --levels 7|--levels 7: --levels is a number from 1 to 6
-data run --pick xx|--pick xx: --pick is so or sd
-data run --page 4|--page 4: the buffer's 512 is more than 4 x 4 x 8
 data run --page 1024 --tile 64|--page 1024 --tile 64: a file's 1024 x 64 x 8 entries are more than 65536
-data run --buffer 2049 --page 64|--page 64 --buffer 2049: the buffer's 2049 is more than 64 x 4 x 8
 END
+while IFS='|' read -r line reason; do
+    eval "call $line"
+    went 2 'bad words\n' "lethe: $reason (status 2: ./lethe --help)\n"
+    eval "call --quiet $line"
+    went 2 'bad words\n' ''
+done <"$work/rows"
 call
 [ "$status-$(cat "$work/text")" = "2-bad words" ] || fail "no words print '$(cat "$work/text")'"
 grep -q '^Options, each at most once' "$work/said" || fail "no words are answered without the help"
