@@ -7,3 +7,4 @@ pub mod Loops
 pub mod Files
 pub mod Groups
 pub mod Numbering
+pub mod Zips

@@ -1,5 +1,5 @@
 -- Files that have no numbers yet, and what they are once they have them.
-use Rattle.std.specs.Prelude.{◌≡◌, ℕ, ◌+◌, List, [], ◌∷◌, length, map, zip, take, drop}
+use Rattle.std.specs.Prelude.{◌≡◌, ℕ, ◌+◌, List, [], ◌∷◌, length, map, flat_map, zip, take, drop}
 use Rattle.std.specs.List.{AllZip}
 use Rattle.sha2.specs.Sha256.{sha256}
 use Rattle.lethe_base.specs.Layout as layout
@@ -24,6 +24,10 @@ abbrev pub with_numbers : List ℕ → List TileLine → List TileLine
 with_numbers numbers [] = []
 with_numbers numbers (tile ∷ tiles) =
     record tile { pages = map with_number (zip (take (length tile.pages) numbers) tile.pages) } ∷ with_numbers (drop (length tile.pages) numbers) tiles
+
+-- the pages of drafts, one draft after another
+abbrev pub pages_in : List Draft → List (List ℕ)
+pages_in drafts = flat_map (λ draft. draft.pages) drafts
 
 abbrev pub header_of : ℕ → List TileLine → Header
 header_of number tiles = record { no = number; tiles = tiles }

@@ -24,7 +24,7 @@ use Rattle.lethe_cover.proofs.Lists.{all_from, flat_from, flat_in, in_map, in_mi
 use Rattle.lethe_cover.proofs.Merging.{merged_outcome}
 use Rattle.lethe_file.specs.Agreement.{Agrees, page_name}
 use Rattle.lethe_file.specs.Agreement as agreement
-use Rattle.lethe_flush.specs.Made.{pages_in}
+use Rattle.lethe_build.specs.Drafts.{pages_in}
 use Rattle.lethe_flush.specs.Merged.{IsMergeIn, StoredMerge, entries_in, inputs_of}
 use Rattle.lethe_flush.proofs.Following.{file_from, file_in}
 use Rattle.lethe_header.specs.Facts.{lines_of}

@@ -10,7 +10,7 @@ ghost use Rattle.lethe_commit.specs.Gates.{gate_name};
 ghost use Rattle.lethe_commit.specs.Place.{insert_all};
 ghost use Rattle.lethe_disk.specs.Directory.{Directory, object};
 ghost use Rattle.lethe_file.specs.Agreement.{page_name};
-ghost use Rattle.lethe_flush.specs.Made.{pages_in};
+ghost use Rattle.lethe_build.specs.Drafts.{pages_in};
 ghost use Rattle.lethe_flush.specs.Merged.{IsMergeIn, StoredMerge, entries_in, inputs_of};
 ghost use Rattle.lethe_merge.specs.Merge.{merged};
 ghost use Rattle.lethe_segment.specs.declared.record.Record.{Record};

@@ -1,5 +1,5 @@
 -- Names that a store in its first moments doesn't have.
-use Rattle.std.specs.Prelude.{ℕ, Bool, true, false, ◌||◌, nat_lt}
+use Rattle.std.specs.Prelude.{Bool, true, false, ◌||◌, nat_lt}
 use Rattle.lethe_base.specs.declared.name.Kind.{Kind}
 use Rattle.lethe_base.specs.declared.name.Kind.TheVariants.{Gate, Manifest, Segment, File, Page}
 use Rattle.lethe_base.specs.declared.name.Name.{Name}

@@ -30,7 +30,7 @@ use Rattle.lethe_version.specs.Versions.{IsSound, entries_of, files_of, levels_o
 use Rattle.lethe_version.specs.declared.version.Version.{Version}
 use Rattle.lethe_follows.specs.Holders.{IsHeldBy, IsPaged, pages_in, pages_of}
 use Rattle.lethe_follows.proofs.Answering.{get_answers, shown_between}
-use Rattle.lethe_job.proofs.Newest.{newest_none}
+use Rattle.lethe_state.proofs.Recording.{newest_none}
 use Rattle.lethe_advance.specs.Shown.{parts_by_level, parts_in}
 use Rattle.lethe_read.specs.Between.{AreReadBetween, by_keys}
 use Rattle.lethe_read.specs.Found.{IsNewestBelow, first_found, frozen_entries}

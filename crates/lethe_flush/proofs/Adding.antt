@@ -28,12 +28,13 @@ use Rattle.lethe_header.specs.Headers.{header_bytes}
 use Rattle.lethe_header.specs.declared.header.PageLine.{PageLine}
 use Rattle.lethe_stored.specs.Files.{StoredFile, cited_of, file_name, lines_in, objects_in, objects_of}
 use Rattle.lethe_flush.specs.Added.{IsAdded, file_by, header_by, numbers_by, pages_by}
-use Rattle.lethe_flush.specs.Made.{AreFilesOf, IsOfDraft, named_of, pages_in}
+use Rattle.lethe_build.specs.Drafts.{pages_in}
+use Rattle.lethe_flush.specs.Made.{AreFilesOf, IsOfDraft, named_of}
 use Rattle.lethe_flush.specs.declared.made.MadeFiles.{MadeFiles}
 use Rattle.lethe_flush.proofs.Clearness.{unmapped}
 use Rattle.lethe_flush.proofs.Numbers.{Differ, IsOther, Named, in_first, name_there, no_of, number_in, numbers_below, numbers_once, numbers_zip, others, pages_again, range_differs, range_from}
 use Rattle.lethe_flush.proofs.Pushed.{numbers_count}
-use Rattle.lethe_flush.proofs.Zips.{cut_zip, drop_as, drop_parts, lines_zip, take_parts, zip_cut, zip_joined, zip_more}
+use Rattle.lethe_build.proofs.Zips.{cut_zip, drop_as, drop_parts, lines_zip, take_parts, zip_cut, zip_joined, zip_more}
 
 abbrev line_number : PageLine → ℕ
 line_number line = line.no

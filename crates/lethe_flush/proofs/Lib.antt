@@ -2,7 +2,6 @@ pub mod Newest
 pub mod Results
 pub mod Places
 pub mod Clearness
-pub mod Zips
 pub mod Numbers
 pub mod Pushed
 pub mod Adding

@@ -2,7 +2,7 @@
 use Rattle.std.specs.Prelude.{◌≡◌, ◌≢◌, ◌⊎◌, ℕ, ◌<◌, ◌≤◌, List, ◌++◌, length, map, zip, take, flat_map, All, AllPairs, Contains, IsPermutation}
 use Rattle.std.specs.List.{AllZip}
 use Rattle.lethe_base.specs.declared.name.Name.{Name}
-use Rattle.lethe_build.specs.Drafts.{with_numbers}
+use Rattle.lethe_build.specs.Drafts.{pages_in, with_numbers}
 use Rattle.lethe_build.specs.declared.draft.Draft.{Draft}
 use Rattle.lethe_advance.specs.Object.{Object}
 use Rattle.lethe_file.specs.Agreement.{page_name}
@@ -19,10 +19,6 @@ named_of made = (made.name, made.bytes)
 -- the headers of files that are made
 abbrev pub headers_of : MadeFiles → List Header
 headers_of made = map (λ new. new.header) made.headers.items
-
--- the pages of drafts, one draft after another
-abbrev pub pages_in : List Draft → List (List ℕ)
-pages_in drafts = flat_map (λ draft. draft.pages) drafts
 
 -- the first of the drafts' pages, which were written before under these names
 abbrev pub written_pages : List Name → List Draft → List (Name × List ℕ)

@@ -6,7 +6,8 @@ ghost use Rattle.lethe_build.specs.Drafts.{IsDraft, numbers_for};
 ghost use Rattle.lethe_header.specs.Headers as headers;
 ghost use Rattle.lethe_manifest.specs.Manifests.{IsFile};
 ghost use Rattle.lethe_stored.specs.Files.{StoredFile};
-ghost use Rattle.lethe_flush.specs.Made.{AreFilesOf, pages_in};
+ghost use Rattle.lethe_build.specs.Drafts.{pages_in};
+ghost use Rattle.lethe_flush.specs.Made.{AreFilesOf};
 
 use crate::made::MadeFiles;
 use lethe_base::{Name, NoMemory};

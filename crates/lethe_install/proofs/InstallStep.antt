@@ -20,7 +20,8 @@ use Rattle.lethe_commit.specs.declared.objects.Object.{Object}
 use Rattle.lethe_cover.proofs.Common.{⊎_elim}
 use Rattle.lethe_cover.proofs.Lists.{Pairs, all_from, flat_from, flat_in, in_map, in_rest, map_from, pairs_append, pairs_from, pairs_parts, pairs_to}
 use Rattle.lethe_file.specs.Agreement.{page_name}
-use Rattle.lethe_flush.specs.Made.{AreFilesOf, named_of, pages_in, written_pages}
+use Rattle.lethe_build.specs.Drafts.{pages_in}
+use Rattle.lethe_flush.specs.Made.{AreFilesOf, named_of, written_pages}
 use Rattle.lethe_flush.specs.declared.made.MadeFiles.{MadeFiles}
 use Rattle.lethe_flush.proofs.Weaving.{are_woven, files_agree}
 use Rattle.lethe_follows.specs.Merged.{AreNewIn, IsMerged, IsMergeIn, StoredMerge, entries_in, erases_upto, inputs_of, merging_manifest, others_of}

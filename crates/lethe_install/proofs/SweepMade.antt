@@ -19,7 +19,7 @@ use Rattle.lethe_file.specs.Agreement.{entries_in, page_name}
 use Rattle.lethe_flush.specs.Made.{named_of}
 use Rattle.lethe_flush.specs.declared.made.MadeFiles.{MadeFiles}
 use Rattle.lethe_flush.proofs.Numbers.{Differ, IsOther, name_there, no_of, number_in, numbers_below, numbers_once, numbers_zip, others, pages_again, range_differs, range_from}
-use Rattle.lethe_flush.proofs.Zips.{zip_cut, zip_joined}
+use Rattle.lethe_build.proofs.Zips.{zip_cut, zip_joined}
 use Rattle.lethe_header.specs.Headers.{HasSpelling, header_bytes}
 use Rattle.lethe_header.specs.declared.header.PageLine.{PageLine}
 use Rattle.lethe_remade.specs.Making.{AreMadeOf, IsMadeOf, IsNoFile, header_by, numbers_by}

@@ -16,5 +16,4 @@ pub mod Claimed
 pub use Rattle.lethe_sweeps.proofs.SweptFor
 pub use Rattle.lethe_sweeps.proofs.SweptRising
 pub use Rattle.lethe_sweeps.proofs.SweptErases
-pub use Rattle.lethe_flush.proofs.Newest
-pub use Rattle.lethe_flush.proofs.Zips
+pub use Rattle.lethe_build.proofs.Zips

@@ -10,7 +10,7 @@ use Rattle.lethe_disk.specs.Reads.{HasReadCause, IsFault}
 use Rattle.lethe_disk.specs.declared.cursor.ReadRefused.{ReadRefused}
 use Rattle.lethe_disk.specs.declared.cursor.ReadRefused.TheVariants.{ReadFault, Damaged}
 use Rattle.lethe_disk.proofs.Causes.{cause_as}
-use Rattle.lethe_flush.specs.Made.{pages_in}
+use Rattle.lethe_build.specs.Drafts.{pages_in}
 use Rattle.lethe_stored.specs.Files.{StoredFile}
 use Rattle.lethe_job.specs.Jobs.{IsUnread, told_as}
 use Rattle.lethe_job.specs.MadeOf.{numbers_in, pages_of}

@@ -2,7 +2,7 @@
 use Rattle.std.specs.Prelude.{ℕ, List, length, sum_by, take, zip}
 use Rattle.lethe_base.specs.declared.name.Name.{Name}
 use Rattle.lethe_build.specs.Drafts.{numbers_for}
-pub use Rattle.lethe_flush.specs.Made.{pages_in}
+pub use Rattle.lethe_build.specs.Drafts.{pages_in}
 use Rattle.lethe_sweep_task.specs.Drafted.{new_pages, numbers_of}
 use Rattle.lethe_job.specs.declared.made.Made.{Made}
 use Rattle.lethe_job.specs.declared.made.Made.TheVariants.{Files, Left}

@@ -1,7 +1,7 @@
 //! What a job makes.
 ghost use Rattle.std.specs.Prelude.{◌≡◌, ◌<◌, ◌^◌, [], length, slice_index_or, sum_by};
 ghost use Rattle.lethe_job.specs.MadeOf.{numbers_in, pages_of};
-ghost use Rattle.lethe_flush.specs.Made as made;
+ghost use Rattle.lethe_build.specs.Drafts as made;
 ghost use Rattle.lethe_build.specs.Drafts.{numbers_for};
 
 use lethe_build::{Draft, numbers_for};

@@ -1,5 +1,5 @@
 use Rattle.std.proofs.Common.{◌≡◌, ◌<◌, [], length, get_or, drop}
-use Rattle.lethe_flush.specs.Made.{pages_in}
+use Rattle.lethe_build.specs.Drafts.{pages_in}
 use Rattle.lethe_job.proofs.made.draft_page.Given as goal
 
 -- the page stands at that place behind the first drafts

@@ -7,7 +7,7 @@ use Rattle.lethe_merge.specs.Merge.{merged}
 use Rattle.lethe_version.specs.Versions.{files_of}
 use Rattle.lethe_recover.specs.Flushing.{AreDraftsOfRecords}
 use Rattle.lethe_recover.proofs.Drafted.{few_records}
-use Rattle.lethe_recover.proofs.Results.{ok_both, ok_weaker}
+use Rattle.lethe_flush.proofs.Results.{ok_both, ok_weaker}
 use Rattle.lethe_recover.proofs.flushing.drafts_of_records.Goals as goal
 
 pub returns-clause-made : goal.returns-clause-made

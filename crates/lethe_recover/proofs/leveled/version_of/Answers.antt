@@ -7,7 +7,7 @@ use Rattle.lethe_stored.specs.Stored.{Stored, IsCoherent}
 use Rattle.lethe_version.specs.Versions.{levels_of}
 use Rattle.lethe_advance.specs.Shown.{parts_in, parts_by_level}
 use Rattle.lethe_recover.proofs.ByLevel.{has_files}
-use Rattle.lethe_recover.proofs.Results.{ok_both}
+use Rattle.lethe_flush.proofs.Results.{ok_both}
 use Rattle.lethe_recover.proofs.leveled.version_of.Goals as goal
 
 pub returns-clause-files : goal.returns-clause-files

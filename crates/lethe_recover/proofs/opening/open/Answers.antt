@@ -7,7 +7,8 @@ use Rattle.lethe_stored.specs.Numbers.{IsNextNumber}
 use Rattle.lethe_stored.proofs.Numbers.{pace_then}
 use Rattle.lethe_load.specs.Refused.{HasReason}
 use Rattle.lethe_recover.specs.Opening.{IsOpened, IsResumed, IsKeptInOpening, MayNotOpen, IsCut, since_start}
-use Rattle.lethe_recover.proofs.Results.{ok_weaker, err_weaker}
+use Rattle.lethe_flush.proofs.Results.{ok_weaker}
+use Rattle.lethe_recover.proofs.Results.{err_weaker}
 use Rattle.lethe_recover.proofs.Resumed.{same_may, AsKept, from_left, from_kept, quiet_pace}
 use Rattle.lethe_recover.proofs.opening.open.Goals as goal
 

@@ -13,7 +13,8 @@ use Rattle.lethe_recover.specs.Journals.{erases_of}
 use Rattle.lethe_recover.specs.New.{new_stored}
 use Rattle.lethe_recover.specs.Opening.{IsOpened, IsResumed, IsSpellable, MayNotOpen, IsCut, since_start}
 use Rattle.lethe_recover.specs.Resuming.{IsThere, IsReopened}
-use Rattle.lethe_recover.proofs.Results.{ok_weaker, err_weaker}
+use Rattle.lethe_flush.proofs.Results.{ok_weaker}
+use Rattle.lethe_recover.proofs.Results.{err_weaker}
 use Rattle.lethe_recover.proofs.Resumed.{since_may, since_exact, cut_may, new_opened, new_resumed, kept_of_none, kept_for, kept_config, opened_from, resumed_from, read_some, read_none, manifest_of, loaded_as, exhausted_of, settled_again, AsKept, still_kept, kept_goes, quiet_pace, spelled_some, cited_long}
 use Rattle.lethe_recover.proofs.opening.open_synced.Goals as goal
 

@@ -12,7 +12,7 @@ use Rattle.lethe_recover.specs.Journals.{IsJournalOf}
 use Rattle.lethe_recover.specs.declared.journal.Journal.{Journal}
 use Rattle.lethe_advance.specs.Segment.{empty_segment}
 use Rattle.lethe_recover.specs.Reopening.{AreHeadersOf, IsStepOf, Reopens}
-use Rattle.lethe_recover.proofs.Results.{ok_both, ok_weaker}
+use Rattle.lethe_flush.proofs.Results.{ok_both, ok_weaker}
 use Rattle.lethe_recover.proofs.Stepping.{reopens}
 use Rattle.lethe_recover.proofs.reopening.reopening_of.Goals as goal
 
