@@ -7,7 +7,7 @@
 . "$(dirname -- "$0")/common.sh"
 needs python3
 needs_program
-python3 - "$program" "$work/store" "${1:-$(od -An -N4 -tu4 /dev/urandom | tr -d ' ')}" <<'END'
+python3 - "$program" "$work/store" "${1:-$(od -An -N4 -tu4 /dev/urandom | tr -d ' ')}" <<'END' >"$work/told" 2>&1 || fail "$(tail -n 1 "$work/told")"
 import random
 import subprocess
 import sys
@@ -23,7 +23,7 @@ ENOUGH = 10
 
 
 def fail(why):
-    print(f"FAIL kill: seed {SEED}: {why}")
+    print(f"seed {SEED}: {why}")
     sys.exit(1)
 
 
@@ -105,8 +105,9 @@ def main():
         turns = turn + 1
     if midway < ENOUGH:
         fail(f"only {midway} of {turns} runs were killed between their first change and their last, which says too little: the device is too slow or too busy")
-    print(f"PASS kill: seed {SEED}, {turns} runs, {killed} killed, {midway} of them between their first change and their last, {place} changes in the end")
+    print(f"seed {SEED}, {turns} runs, {killed} killed, {midway} of them between their first change and their last, {place} changes in the end")
 
 
 main()
 END
+pass "$(tail -n 1 "$work/told")"

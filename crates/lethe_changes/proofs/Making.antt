@@ -30,7 +30,7 @@ use Rattle.lethe_stored.specs.Numbers.{GoesFrom}
 use Rattle.lethe_stored.specs.Files.{Parts}
 use Rattle.lethe_stored.specs.Stored.{Stored}
 use Rattle.lethe_core.specs.Merges.{IsRoomBegun}
-use Rattle.lethe_core.proofs.Retired.{retired_same, retired_then}
+use Rattle.lethe_core.proofs.Timely.{retired_same, retired_then}
 use Rattle.lethe_stored.proofs.Numbers.{goes_from_then, goes_from_weaker}
 use Rattle.lethe_engine.specs.Along.{AreAppended, HasGrown, IsAtEnd, IsKeptAlong, calls_of, row_behind, tried, with_all}
 use Rattle.lethe_core.proofs.Standing.{stands_moments}
@@ -635,7 +635,7 @@ module _ (Tells PortsFail : Type 0) (old : View) (asked made left : List Asked) 
           (mid.levels, to.2.remembers),
           record {
             left = left.0;
-            room = subst (λ flight. IsRoomBegun flight to.0 left.0) (ap (λ (face : Face). face.flight) so_far.face) (begun_of next left.1);
+            room = subst (λ flight. IsRoomBegun flight to.0 left.0) (ap (λ (face : Face). face.flights) so_far.face) (begun_of next left.1);
             holds = left.2;
             later = says.later told;
             fetched = more;
@@ -643,7 +643,7 @@ module _ (Tells PortsFail : Type 0) (old : View) (asked made left : List Asked) 
           },
         )
       where
-        begun_of : {flight : Option Flying} {t u : Stored} (next : Asked) → IsBegun (call_of next) flight t u → IsRoomBegun flight t u
+        begun_of : {flight : List Flying} {t u : Stored} (next : Asked) → IsBegun (call_of next) flight t u → IsRoomBegun flight t u
         begun_of (Put key dkey value) begun = begun
         begun_of (Delete key) begun = begun
         begun_of (Erase range) begun = begun

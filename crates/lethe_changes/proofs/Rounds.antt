@@ -32,7 +32,7 @@ none_made_stopped Tells call face old new says stopped =
 
 -- How they were made
 
-pub alone_of : (old new : View) (before now : ℕ) (s : Stored) (asked : Asked) (t : Stored) (outcomes : List Outcome) (levels : List (List Parts)) (next : Record) → (HasRoom s → ⊥) → IsRoomMadeBy old.flight s outcomes t
+pub alone_of : (old new : View) (before now : ℕ) (s : Stored) (asked : Asked) (t : Stored) (outcomes : List Outcome) (levels : List (List Parts)) (next : Record) → (HasRoom s → ⊥) → IsRoomMadeBy old.flights s outcomes t
     → HasFiles (appended t next) levels → IsRecordOver (headers_in levels) t asked next → now ≡ before + pages_of outcomes → AreRetiredBehind outcomes old.pins.pins old.retired new.retired → old.disk.moment ≤ new.disk.moment
     → IsMadeAlone old (point_of s old before) asked (point_of (appended t next) new now)
 alone_of old new before now s asked t outcomes levels next full (inl room) files over fetches retired later = absurd (full room.0)
@@ -52,7 +52,7 @@ alone_of old new before now s asked t outcomes levels next full (inr room) files
 }
 
 -- the same of a store with that job in flight and those pins
-alone_in : (old mid : View) (p : Point) (asked : Asked) (q : Point) → mid.flight ≡ old.flight → mid.pins ≡ old.pins → IsMadeAlone mid p asked q → IsMadeAlone old p asked q
+alone_in : (old mid : View) (p : Point) (asked : Asked) (q : Point) → mid.flights ≡ old.flights → mid.pins ≡ old.pins → IsMadeAlone mid p asked q → IsMadeAlone old p asked q
 alone_in old mid p asked q flight pins alone = record {
   full = alone.full;
   outcomes = alone.outcomes;
@@ -102,7 +102,7 @@ no_room Tells left left' done mid new then row next more face is says s holds ro
     by (inr (inr (inr used))) = let count = says.count in let few = says.sound.writable.count in omega (arith, used, count, few)
 
 pub round_made : (Tells : Type 0) (old mid new then : View) (made left left' more : List Asked) (done : ℕ) (next : Asked) (face : Face) (start before now : ℕ) (row : AnswersRow Tells left left' done None mid new) → left' ≡ next ∷ more
-    → new.flight ≡ old.flight → new.pins ≡ old.pins → Answers Tells (Makes (call_of next)) None face new then
+    → new.flights ≡ old.flights → new.pins ≡ old.pins → Answers Tells (Makes (call_of next)) None face new then
     → (Tells → (s : Stored) → Holds new s → (HasRoom s → ⊥) → (t : Stored) × IsMadeAlone new (point_of s new before) next (point_of t then now) × Holds then t) → AreRounds Tells old start made mid before
     → AreRounds Tells old start ((made ++ row.row.made) ++ next ∷ []) then now
 round_made Tells old mid new then made left left' more done next face start before now row is flight pins says alone head told s holds =

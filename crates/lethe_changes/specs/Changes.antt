@@ -93,7 +93,7 @@ pub record IsMadeAlone (view : View) (p : Point) (asked : Asked) (q : Point) : T
   pub full : HasRoom p.stored → ⊥
   pub outcomes : List Outcome
   pub cleared : Stored
-  pub room : IsCleared view.flight p.stored outcomes cleared
+  pub room : IsCleared view.flights p.stored outcomes cleared
   pub levels : List (List Parts)
   pub files : HasFiles q.stored levels
   pub next : Record
@@ -136,7 +136,7 @@ pub record IsWritten (view : View) (refused : Option Refused) (made : List Asked
 -- Behind this point some of the steps that make room for the next change may have been done, and nothing else.
 pub record IsRefusedAt (view : View) (p : Point) (new : View) (fetches : ℕ) : Type 0 where
   pub left : Stored
-  pub room : IsRoomBegun view.flight p.stored left
+  pub room : IsRoomBegun view.flights p.stored left
   pub holds : Holds new left
   pub later : p.moment ≤ new.disk.moment
   pub fetched : p.fetches ≤ fetches

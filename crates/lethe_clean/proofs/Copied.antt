@@ -1,15 +1,16 @@
--- The pages of a merge's outputs have no puts but those of its inputs, and copied pages stay so while the files that were stored are stored.
+-- The pages of a merge's outputs have no puts but those of its inputs, and so only those of what is stored where that has the inputs.
 use Rattle.std.proofs.Common.{◌≡◌, ℕ, ◌+◌, Bool, true, false, cond, List, [], ◌∷◌, Contains, All, IsPermutation, None, refl, sym, subst, arith}
-use Rattle.std.specs.Prelude.{flat_map}
+use Rattle.std.specs.Prelude.{flat_map, map}
 use Rattle.std.specs.List.{AllZip, list_any}
 use Rattle.std.proofs.Math.Logic.{⊎_elim}
-use Rattle.std.proofs.lemmas.List.Elements.{All-weaker, Contains-append_cases}
+use Rattle.std.proofs.lemmas.List.Elements.{All-contains, All-weaker}
 use Rattle.std.proofs.lemmas.List.Sorted.{Contains-permutation, IsPermutation-append, IsPermutation-refl, IsPermutation-sym}
 use Rattle.lethe_base.specs.Entries.{pair_of}
 use Rattle.lethe_base.specs.Held.{InFiles}
 use Rattle.lethe_base.specs.Keys.{Bytes}
 use Rattle.lethe_base.specs.Layout.{Tile, entries_of, files_of}
 use Rattle.lethe_base.specs.Matching.{IsPut, matches, pair_under}
+use Rattle.lethe_base.specs.declared.config.Fields.{Fields}
 use Rattle.lethe_base.specs.declared.entry.Body.{Body}
 use Rattle.lethe_base.specs.declared.entry.Body.TheVariants.{Put, Tomb}
 use Rattle.lethe_base.specs.declared.entry.Entry.{Entry}
@@ -20,21 +21,21 @@ use Rattle.lethe_base.proofs.Newest.{first_is, first_or_rest}
 use Rattle.lethe_build.specs.Drafts.{AreDraftsOf, IsDraftOf}
 use Rattle.lethe_build.specs.declared.draft.Draft.{Draft}
 use Rattle.lethe_build.proofs.Whole.{tile_once}
-use Rattle.lethe_cover.proofs.Lists.{all_from, flat_from, flat_in, in_map, in_middle, in_rest}
+use Rattle.lethe_cover.proofs.Lists.{all_from, flat_from, flat_in, in_map, in_rest, map_from}
 use Rattle.lethe_cover.proofs.Merging.{merged_outcome}
 use Rattle.lethe_file.specs.Agreement.{Agrees, page_name}
 use Rattle.lethe_file.specs.Agreement as agreement
 use Rattle.lethe_build.specs.Drafts.{pages_in}
-use Rattle.lethe_flush.specs.Merged.{IsMergeIn, StoredMerge, entries_in, inputs_of}
-use Rattle.lethe_flush.proofs.Following.{file_from, file_in}
+use Rattle.lethe_flush.specs.Merged.{entries_in}
+use Rattle.lethe_flush.proofs.Following.{file_in}
 use Rattle.lethe_header.specs.Facts.{lines_of}
 use Rattle.lethe_merge.specs.Merge.{merged}
 use Rattle.lethe_merge.proofs.Merges.{merged_is}
 use Rattle.lethe_stored.specs.Files.{StoredFile, file_of}
 use Rattle.lethe_stored.specs.Stored.{Stored, IsCoherent, layout_of}
-use Rattle.lethe_stored.proofs.Leveled.{from_level, low_level}
+use Rattle.lethe_stored.proofs.Leveled.{low_level}
 use Rattle.lethe_tile.specs.Woven.{IsTile, joined}
-use Rattle.lethe_clean.specs.Copied.{IsCopied, IsOriginal}
+use Rattle.lethe_clean.specs.Copied.{IsCopied, IsCopiedOf, IsOriginal}
 
 -- a put that the erases leave is the put that was there
 same_body : (erases : List Pending) (seq : ℕ) (a b : Body) → IsPut b → pair_of b ≡ pair_under erases seq a → a ≡ b
@@ -67,27 +68,19 @@ woven_same page (slice ∷ slices) [] zipped = absurd zipped
 woven_same page (slice ∷ slices) (tile ∷ tiles) zipped =
     IsPermutation-append slice (in_tile tile) (joined slices) (flat_map in_tile tiles) (tile_once page slice tile zipped.0) (woven_same page slices tiles zipped.1)
 
-module _ (s : Stored) (m : StoredMerge) (coherent : IsCoherent s) (begun : IsMergeIn s m) (erases : List Pending) (alone : Bool) where
+module _ (files : List StoredFile) (erases : List Pending) (alone : Bool) where
   abbrev inputs : List Entry
-  inputs = entries_in (inputs_of m)
+  inputs = entries_in files
 
   abbrev list : List Entry
   list = merged inputs erases alone
 
-  -- the inputs are stored
-  input_in : (file : StoredFile) → Contains (inputs_of m) file → Contains s.files file
-  input_in file there = ⊎_elim
-      (λ source. (from_level s.files m.level file (subst (λ files. Contains files file) (sym begun.from) (in_middle m.newer m.sources m.older file source))).0)
-      (λ met. (from_level s.files (m.level + 1) file (subst (λ files. Contains files file) (sym begun.into) (in_middle m.lower m.met m.higher file met))).0)
-      (Contains-append_cases m.sources m.met file there)
-
-  input_filed : (entry : Entry) → Contains inputs entry → InFiles (files_of (layout_of s)) entry
+  input_filed : (entry : Entry) → Contains inputs entry → InFiles (map file_of files) entry
   input_filed entry there =
-      let found = flat_from (λ (file : StoredFile). entries_of (file_of file)) (inputs_of m) entry there in
-      let cited = input_in found.0 found.1 in
-      record { file = file_of found.0; there = file_in s.manifest.config.levels s.files found.0 cited (low_level s coherent found.0 cited); spelled = found.2 }
+      let found = flat_from (λ (file : StoredFile). entries_of (file_of file)) files entry there in
+      record { file = file_of found.0; there = in_map file_of files found.0 found.1; spelled = found.2 }
 
-  pub output_original : (output : Entry) → Contains list output → IsPut output.body → IsOriginal (files_of (layout_of s)) output
+  pub output_original : (output : Entry) → Contains list output → IsPut output.body → IsOriginal (map file_of files) output
   output_original output made put =
       let outcome = merged_outcome (Contains inputs) inputs (λ entry there. there) (λ entry there. there) erases alone list (merged_is inputs erases alone) in
       let from = outcome.source output made in
@@ -99,7 +92,7 @@ module _ (s : Stored) (m : StoredMerge) (coherent : IsCoherent s) (begun : IsMer
         body = same_body erases from.input.seq from.input.body output.body put from.answer;
       }
 
-  module _ (drafts : List Draft) (are : AreDraftsOf s.manifest.config list drafts) where
+  module _ (config : Fields) (drafts : List Draft) (are : AreDraftsOf config list drafts) where
     -- an entry of a page of the drafts is one of the list
     entry_listed : (group : List Tile) → Contains are.groups group → (page : List Entry) → Contains (flat_map (λ (tile : Tile). tile.pages) group) page
         → (entry : Entry) → Contains page entry → Contains list entry
@@ -108,11 +101,11 @@ module _ (s : Stored) (m : StoredMerge) (coherent : IsCoherent s) (begun : IsMer
         let whole : Contains (joined are.groups) tile.0 = flat_in (λ (part : List Tile). part) are.groups group tile.0 there tile.1 in
         let placed : Contains are.tiles tile.0 = subst (λ tiles. Contains tiles tile.0) are.consecutive whole in
         let woven : Contains (flat_map in_tile are.tiles) entry = flat_in in_tile are.tiles tile.0 entry placed (flat_in (λ (page : List Entry). page) (tile.0).pages page entry tile.2 among) in
-        let same = woven_same s.manifest.config.page are.woven.slices are.tiles are.woven.each in
+        let same = woven_same config.page are.woven.slices are.tiles are.woven.each in
         subst (λ entries. Contains entries entry) are.woven.consecutive
         (Contains-permutation (flat_map in_tile are.tiles) (joined are.woven.slices) entry (IsPermutation-sym (joined are.woven.slices) (flat_map in_tile are.tiles) same) woven)
 
-    pub page_copied : (number : ℕ) (bytes : List ℕ) → Contains (pages_in drafts) bytes → IsCopied s (page_name number, bytes)
+    pub page_copied : (number : ℕ) (bytes : List ℕ) → Contains (pages_in drafts) bytes → IsCopiedOf (map file_of files) (page_name number, bytes)
     page_copied number bytes there =
         let draft = flat_from (λ (draft : Draft). draft.pages) drafts bytes there in
         let group = zip_left_of IsDraftOf are.groups drafts draft.0 are.each draft.1 in
@@ -127,34 +120,37 @@ module _ (s : Stored) (m : StoredMerge) (coherent : IsCoherent s) (begun : IsMer
           copies = all_of (agreement.entries_in bytes) (λ entry among put. output_original entry (entry_listed group.0 group.1 (agreement.entries_in bytes) page entry among) put);
         }
       where
-        all_of : (entries : List Entry) → ((entry : Entry) → Contains entries entry → IsPut entry.body → IsOriginal (files_of (layout_of s)) entry)
-            → All (λ entry. IsPut entry.body → IsOriginal (files_of (layout_of s)) entry) entries
-        all_of entries each = all_from (λ entry. IsPut entry.body → IsOriginal (files_of (layout_of s)) entry) entries each
+        all_of : (entries : List Entry) → ((entry : Entry) → Contains entries entry → IsPut entry.body → IsOriginal (map file_of files) entry)
+            → All (λ entry. IsPut entry.body → IsOriginal (map file_of files) entry) entries
+        all_of entries each = all_from (λ entry. IsPut entry.body → IsOriginal (map file_of files) entry) entries each
 
--- What is stored next has the files that were stored
+-- What is stored has the files
 
-module _ (s t : Stored) (levels : t.manifest.config.levels ≡ s.manifest.config.levels) (stay : (file : StoredFile) → Contains s.files file → Contains t.files file) where
-  original_stays : (entry : Entry) → IsOriginal (files_of (layout_of s)) entry → IsOriginal (files_of (layout_of t)) entry
-  original_stays entry is =
-      let found = file_from s.manifest.config.levels s.files is.filed.file is.filed.there in
-      let low = found.2 in
-      let there = file_in t.manifest.config.levels t.files found.0 (stay found.0 found.1) (omega (arith, low, levels)) in
+module _ (s : Stored) (coherent : IsCoherent s) (files : List StoredFile) (stored : All (Contains s.files) files) where
+  original_stored : (entry : Entry) → IsOriginal (map file_of files) entry → IsOriginal (files_of (layout_of s)) entry
+  original_stored entry is =
+      let found = map_from file_of files is.filed.file is.filed.there in
+      let cited = All-contains (Contains s.files) files found.0 stored found.1 in
       record {
         original = is.original;
-        filed = record { file = is.filed.file; there = subst (Contains (files_of (layout_of t))) found.3 there; spelled = is.filed.spelled };
+        filed = record {
+          file = is.filed.file;
+          there = subst (Contains (files_of (layout_of s))) found.2 (file_in s.manifest.config.levels s.files found.0 cited (low_level s coherent found.0 cited));
+          spelled = is.filed.spelled;
+        };
         seq = is.seq;
         key = is.key;
         body = is.body;
       }
 
-  pub copied_stays : (named : Name × List ℕ) → IsCopied s named → IsCopied t named
-  copied_stays named is = record {
+  pub copied_stored : (named : Name × List ℕ) → IsCopiedOf (map file_of files) named → IsCopied s named
+  copied_stored named is = record {
     page = is.page;
     entries = is.entries;
     spelled = is.spelled;
-    copies = All-weaker (λ (entry : Entry). IsPut entry.body → IsOriginal (files_of (layout_of s)) entry) (λ (entry : Entry). IsPut entry.body → IsOriginal (files_of (layout_of t)) entry)
-        (λ entry from put. original_stays entry (from put)) is.entries is.copies;
+    copies = All-weaker (λ (entry : Entry). IsPut entry.body → IsOriginal (map file_of files) entry) (λ (entry : Entry). IsPut entry.body → IsOriginal (files_of (layout_of s)) entry)
+        (λ entry from put. original_stored entry (from put)) is.entries is.copies;
   }
 
-  pub all_copied : (loose : List (Name × List ℕ)) → All (IsCopied s) loose → All (IsCopied t) loose
-  all_copied loose copied = All-weaker (IsCopied s) (IsCopied t) (λ named is. copied_stays named is) loose copied
+  pub all_stored : (loose : List (Name × List ℕ)) → All (IsCopiedOf (map file_of files)) loose → All (IsCopied s) loose
+  all_stored loose copied = All-weaker (IsCopiedOf (map file_of files)) (IsCopied s) (λ named is. copied_stored named is) loose copied

@@ -20,12 +20,16 @@ pub record IsOriginal (files : List File) (entry : Entry) : Type 0 where
   pub key : original.key ≡ entry.key
   pub body : original.body ≡ entry.body
 
--- it is a page, and each put that it spells is a stored file's
-pub record IsCopied (s : Stored) (named : Name × List ℕ) : Type 0 where
+-- it is a page, and each put that it spells is one of the files
+pub record IsCopiedOf (files : List File) (named : Name × List ℕ) : Type 0 where
   pub page : named.0.kind ≡ Page
   pub entries : List Entry
   pub spelled : SpellsPage named.1 entries
-  pub copies : All (λ entry. IsPut entry.body → IsOriginal (files_of (layout_of s)) entry) entries
+  pub copies : All (λ entry. IsPut entry.body → IsOriginal files entry) entries
+
+-- a stored file's
+abbrev pub IsCopied : Stored → Name × List ℕ → Type 0
+IsCopied s = IsCopiedOf (files_of (layout_of s))
 
 -- It is a page, each put of which was done at its place, and none was erased a threshold before the time.
 pub record IsTimely (threshold time : ℕ) (h : History) (named : Name × List ℕ) : Type 0 where

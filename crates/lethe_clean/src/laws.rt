@@ -1,7 +1,8 @@
 //! When a directory is clean, what pages of a merge have, and what leaves nothing torn.
-ghost use Rattle.std.specs.Prelude.{◌≡◌, ◌⊎◌, ℕ, List, [], ◌∷◌, ◌++◌, Bool, Some, All, Contains};
+ghost use Rattle.std.specs.Prelude.{◌≡◌, ◌⊎◌, ℕ, List, [], ◌∷◌, ◌++◌, Bool, Some, All, Contains, map};
 ghost use Rattle.std.specs.FinMap.{insert};
 ghost use Rattle.lethe_base.specs.History.{History, after};
+ghost use Rattle.lethe_base.specs.declared.config.Fields.{Fields};
 ghost use Rattle.lethe_base.specs.declared.name.Name.{Name};
 ghost use Rattle.lethe_base.specs.declared.pending.Pending.{Pending};
 ghost use Rattle.lethe_build.specs.Drafts.{AreDraftsOf};
@@ -11,13 +12,13 @@ ghost use Rattle.lethe_commit.specs.Place.{insert_all};
 ghost use Rattle.lethe_disk.specs.Directory.{Directory, object};
 ghost use Rattle.lethe_file.specs.Agreement.{page_name};
 ghost use Rattle.lethe_build.specs.Drafts.{pages_in};
-ghost use Rattle.lethe_flush.specs.Merged.{IsMergeIn, StoredMerge, entries_in, inputs_of};
+ghost use Rattle.lethe_flush.specs.Merged.{entries_in};
 ghost use Rattle.lethe_merge.specs.Merge.{merged};
 ghost use Rattle.lethe_segment.specs.declared.record.Record.{Record};
 ghost use Rattle.lethe_segment.specs.Segments.{segment_bytes};
 ghost use Rattle.lethe_stored.specs.Clean.{IsClean};
 ghost use Rattle.lethe_stored.specs.Encodes.{Encodes};
-ghost use Rattle.lethe_stored.specs.Files.{StoredFile};
+ghost use Rattle.lethe_stored.specs.Files.{StoredFile, file_of};
 ghost use Rattle.lethe_stored.specs.Kept.{IsFor};
 ghost use Rattle.lethe_stored.specs.Stored.{Stored, IsCited, IsCoherent, appended, part_names, segment_name};
 ghost use Rattle.lethe_advance.specs.Settled.{HasOnly};
@@ -25,7 +26,7 @@ ghost use Rattle.lethe_advance.specs.Steps.{IsStep};
 ghost use Rattle.lethe_advance.specs.Untorn.{IsUntorn};
 ghost use Rattle.lethe_advance.specs.declared.new_header.NewHeader.{NewHeader};
 ghost use Rattle.lethe_advance.specs.declared.step.Step.{Step};
-ghost use Rattle.lethe_clean.specs.Copied.{IsCopied, IsTimely};
+ghost use Rattle.lethe_clean.specs.Copied.{IsCopied, IsCopiedOf, IsTimely};
 
 /// A directory that has what is stored, untorn, and beside it only pages of which each put is a stored file's, or none is overdue, is clean at the history's clock.
 pub fn stored_is_clean()
@@ -34,17 +35,17 @@ pub fn stored_is_clean()
         → IsClean s.manifest.config.threshold d h (after h).clock }
 {}
 
-/// The pages of a merge's outputs, under whatever numbers, have only puts that stored files have.
+/// The pages of a merge's outputs, under whatever numbers, have only puts that its inputs have.
 pub fn outputs_are_copied()
-    ensures { (s : Stored) (m : StoredMerge) → IsCoherent s → IsMergeIn s m → (erases : List Pending) (alone : Bool) (drafts : List Draft)
-        → AreDraftsOf s.manifest.config (merged (entries_in (inputs_of m)) erases alone) drafts
-        → (number : ℕ) (bytes : List ℕ) → Contains (pages_in drafts) bytes → IsCopied s (page_name number, bytes) }
+    ensures { (config : Fields) (inputs : List StoredFile) (erases : List Pending) (alone : Bool) (drafts : List Draft)
+        → AreDraftsOf config (merged (entries_in inputs) erases alone) drafts
+        → (number : ℕ) (bytes : List ℕ) → Contains (pages_in drafts) bytes → IsCopiedOf (map file_of inputs) (page_name number, bytes) }
 {}
 
-/// Copied pages stay so where what is stored next has the files that were stored, in as many levels.
-pub fn copied_stay()
-    ensures { (s t : Stored) (loose : List (Name × List ℕ)) → t.manifest.config.levels ≡ s.manifest.config.levels
-        → ((file : StoredFile) → Contains s.files file → Contains t.files file) → All (IsCopied s) loose → All (IsCopied t) loose }
+/// Pages that have only puts of some files have only those of what is stored, where it has these files.
+pub fn copied_are_stored()
+    ensures { (s : Stored) (files : List StoredFile) (loose : List (Name × List ℕ)) → IsCoherent s → All (Contains s.files) files
+        → All (IsCopiedOf (map file_of files)) loose → All (IsCopied s) loose }
 {}
 
 /// What is stored stays untorn by a step whose new gate is empty, where what is cited next stays as the step found or wrote it, by a record, and by whatever leaves

@@ -3,4 +3,4 @@
 
 mod laws;
 
-pub use laws::{copied_stay, outputs_are_copied, stored_is_clean, untorn_stays};
+pub use laws::{copied_are_stored, outputs_are_copied, stored_is_clean, untorn_stays};

@@ -1,12 +1,13 @@
 -- Steps behind others that were carried out: they may be done, and their refusals are those of the whole.
-use Rattle.std.proofs.Common.{◌≡◌, ◌≤◌, ◌⊎◌, inl, inr, ℕ, ◌+◌, Some, None, refl, sym, ap, ◌∙◌, subst, arith}
+use Rattle.std.proofs.Common.{◌≡◌, ◌<◌, ◌≤◌, ◌⊎◌, inl, inr, ℕ, ◌+◌, Some, None, refl, sym, ap, ◌∙◌, subst, arith}
 use Rattle.std.specs.Prelude.{option_map}
 use Rattle.std.specs.Option.{option_map_or, option_or}
+use Rattle.lethe_base.specs.Limits.{max_place}
 use Rattle.lethe_base.specs.declared.refused.Refused.{Refused}
 use Rattle.lethe_base.specs.declared.refused.Refused.TheVariants.{Fault, Stopped, Backwards, Pinned, NothingDue, Cancelled, Exhausted, ReadFault, NoMemory, Damaged}
 use Rattle.lethe_cover.specs.Steps.{with_failed}
 use Rattle.lethe_state.specs.declared.state.State.{State}
-use Rattle.lethe_core.specs.Asked.{failure_of}
+use Rattle.lethe_core.specs.Asked.{failure_of, stopped_by}
 use Rattle.lethe_core.specs.Keeps.{Keeps, MayStep}
 use Rattle.lethe_core.specs.Reasons.{HasReason, IsUnreadable, told_since}
 use Rattle.lethe_core.specs.StandsNow.{StandsNow}
@@ -37,6 +38,20 @@ reason_behind Short Other old mid before now stopped count wider NothingDue is =
 reason_behind Short Other old mid before now stopped count wider (Cancelled begun other) is = is
 reason_behind Short Other old mid before now stopped count wider (ReadFault b a) is = is
 reason_behind Short Other old mid before now stopped count wider (Damaged name) is = is
+
+-- a step that takes no memory is refused where the disk failed alone, and stops the store
+pub refused_stops : (state : State) (before now : ℕ) (why : Refused) → state.stopped ≡ None → state.count < max_place → HasReason ⊥ state before now why → (why ≡ NoMemory → ⊥)
+    → (at : ℕ) × (stopped_by (Some why) state.stopped ≡ Some at)
+refused_stops state before now (Fault place b a) runs fits is memory = (place, refl)
+refused_stops state before now (Stopped at) runs fits is memory = absurd (let clash : Some at ≡ None = sym is ∙ runs in cc)
+refused_stops state before now (Exhausted last) runs fits is memory = elim is.2 [ inl full ↦ absurd (omega (arith, full, fits)) | inr short ↦ absurd short ]
+refused_stops state before now NoMemory runs fits is memory = absurd (memory refl)
+refused_stops state before now (Backwards clock) runs fits is memory = absurd is
+refused_stops state before now (Pinned pin limit) runs fits is memory = absurd is
+refused_stops state before now NothingDue runs fits is memory = absurd is
+refused_stops state before now (Cancelled begun other) runs fits is memory = absurd is
+refused_stops state before now (ReadFault b a) runs fits is memory = absurd is
+refused_stops state before now (Damaged name) runs fits is memory = absurd is
 
 -- Reads that were refused, told with the count of faults before the first of them
 

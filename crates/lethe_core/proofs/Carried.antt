@@ -75,7 +75,7 @@ pub record IsCarried (Tells : Type 0) (old new : View) (headers : List NewHeader
   pub files : Tells → (s t : Stored) (left : List (Name × List ℕ)) → IsRunning old s → IsStep s (beside_in old) t left headers step → HasFiles s old.levels → HasFiles t new.levels
   pub levels : length new.levels ≡ length old.levels
   pub retired : new.retired ≡ old.retired
-  pub flight : new.flight ≡ old.flight
+  pub flights : new.flights ≡ old.flights
   pub pins : new.pins ≡ old.pins
   pub calls : Tells → old.disk.moment + length step.objects.items + 4 ≤ new.disk.moment
   pub faults : old.faults ≤ new.faults

@@ -1,6 +1,6 @@
 -- Steps that went wrong, and steps one after another: what they keep.
 use Rattle.std.proofs.Common.{◌≡◌, ◌≤◌, ◌<◌, ℕ, ◌+◌, List, Option, Some, None, refl, sym, ap, ◌∙◌, subst, arith}
-use Rattle.std.specs.Prelude.{IfSome, IsTrue}
+use Rattle.std.specs.Prelude.{All, IfSome, IsTrue}
 use Rattle.std.proofs.lemmas.List.Elements.{All-weaker}
 use Rattle.lethe_base.specs.History.{History, Change}
 use Rattle.lethe_base.specs.Limits.{max_place}
@@ -34,7 +34,7 @@ use Rattle.lethe_core.specs.StandsNow.{StandsNow, retried}
 use Rattle.lethe_core.specs.Steps.{IsAsBefore, IsHindered, IsUndone}
 use Rattle.lethe_core.specs.View.{Flying, View}
 use Rattle.lethe_core.proofs.Asked.{counted_none, refused_none, stopped_none}
-use Rattle.lethe_core.proofs.Retired.{retired_same, retired_then}
+use Rattle.lethe_core.proofs.Timely.{retired_same, retired_then}
 use Rattle.lethe_core.proofs.Standing.{beside, is_beside, left_at_end, moments_or, sound_back, stands_back, stands_done, stands_for, stands_moments, stopped_stands}
 
 -- Numbers that are drawn
@@ -45,14 +45,13 @@ drawn_on first next names more is = record {
   once = is.once;
 }
 
--- a job in flight stays within the limits
-pub flies_on : (old new : State) → new.manifest.config.levels ≡ old.manifest.config.levels → (flight : Option Flying) → IfSome flight (IsFlying old) → IfSome flight (IsFlying new)
-flies_on old new levels None is = tt
-flies_on old new levels (Some flying) is = record {
+-- the jobs in flight stay within the limits
+pub flies_on : (old new : State) → new.manifest.config.levels ≡ old.manifest.config.levels → (flights : List Flying) → All (IsFlying old) flights → All (IsFlying new) flights
+flies_on old new levels flights fly = All-weaker (IsFlying old) (IsFlying new) (λ flying is. record {
   levels = subst (λ deepest. IsInLevels deepest flying.task) (sym levels) is.levels;
   upto = is.upto;
   erases = is.erases;
-}
+}) flights fly
 
 -- A store that was stopped
 
@@ -96,7 +95,8 @@ sound_halted Tells old new fits sound = record {
   writable = writable_halted old.state fits sound.writable;
   small = small_halted old.state sound.small;
   count = sound.count;
-  flies = flies_on old.state (halted old.state) refl old.flight sound.flies;
+  flights = sound.flights;
+  flies = flies_on old.state (halted old.state) refl old.flights sound.flies;
   loose = sound.loose;
   drawn = sound.drawn;
   pins = sound.pins;

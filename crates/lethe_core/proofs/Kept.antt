@@ -81,7 +81,7 @@ pages_stay files more stay name there =
 module _ (old : View) (s t : Stored) (left : List (Name × List ℕ)) (headers : List NewHeader) (step : Step) (running : IsRunning old s) (is : IsStep s (beside_in old) t left headers step) where
   -- a retired page lies beside what is stored
   pub retired_beside : (name : Name) → Contains old.retired name → Contains (names_in (beside_in old)) name
-  retired_beside name there = subst (λ names. Contains names name) (sym (names_beside_at old.disk.directory old.retired old.flight)) (Contains-append_left old.retired (names_in (loose_in old.flight)) name there)
+  retired_beside name there = subst (λ names. Contains names name) (sym (names_beside_at old.disk.directory old.retired old.flights)) (Contains-append_left old.retired (names_in (loose_in old.flights)) name there)
 
   -- it is there
   pub was_there : (name : Name) → Contains (pages_in s.files) name ⊎ Contains old.retired name → IsSome (object old.disk.directory name)

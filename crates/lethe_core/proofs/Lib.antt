@@ -2,8 +2,8 @@ pub mod Asked
 pub mod Histories
 pub mod Timely
 pub mod Beside
+pub mod Flying
 pub mod Standing
-pub mod Retired
 pub mod Hindered
 pub mod Kept
 pub mod Carried

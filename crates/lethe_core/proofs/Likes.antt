@@ -1,5 +1,4 @@
 -- What a store is where memory was reserved.
-use Rattle.std.specs.Prelude.{option_map}
 use Rattle.std.proofs.Common.{◌≡◌, ◌≤◌, ◌<◌, ◌+◌, ℕ, List, None, length, map, refl, sym, ap, ◌∙◌, subst, arith}
 use Rattle.lethe_base.specs.History.{History}
 use Rattle.lethe_base.specs.Shapes.{earlier}
@@ -25,7 +24,7 @@ use Rattle.lethe_advance.specs.Settled.{names_in}
 use Rattle.lethe_core.specs.Running.{Holds, IsRunning, IsSmall, IsSound}
 use Rattle.lethe_core.specs.StandsNow.{StandsNow}
 use Rattle.lethe_core.specs.Steps.{IsAsBefore, IsBeside}
-use Rattle.lethe_core.specs.View.{Face, View, face_of, flying_of, limited_of, loose_in, names_beside, view_of}
+use Rattle.lethe_core.specs.View.{Face, View, face_of, limited_of, loose_in, names_beside, view_of}
 use Rattle.lethe_core.specs.declared.holding.Core.{Core}
 use Rattle.lethe_core.proofs.Hindered.{drawn_on, flies_on}
 use Rattle.lethe_core.proofs.Standing.{next_stands_now, running_back, stands_for, stands_holds}
@@ -86,8 +85,9 @@ module _ (view : View) (new : State) (like : IsLike view.state new) where
         writable = writable;
         small = like_small view.state new like sound.small;
         count = sound.count ∙ ap (λ (m : Manifest). m.config.levels + 1) (sym like.manifest);
-        flies = flies_on view.state new (ap (λ (m : Manifest). m.config.levels) like.manifest) view.flight sound.flies;
-        loose = drawn_on view.state.next new.next (names_in (loose_in view.flight)) (omega (arith, next)) sound.loose;
+        flights = sound.flights;
+        flies = flies_on view.state new (ap (λ (m : Manifest). m.config.levels) like.manifest) view.flights sound.flies;
+        loose = drawn_on view.state.next new.next (names_in (loose_in view.flights)) (omega (arith, next)) sound.loose;
         drawn = λ told. drawn_on view.state.next new.next (names_beside view) (omega (arith, next)) (sound.drawn told);
         pins = sound.pins;
         pages = sound.pages;
@@ -137,15 +137,15 @@ next_small next end old new is room small =
 -- A step that left all as it was
 
 -- the jobs and the pins of a store are as they were
-pub jobs_same : {D Page Port : Type 0} {kind : Ghosts D Page Port} (old new : Core D Page Port kind) → new.begun ≡ old.begun → new.flight ≡ old.flight → new.pins ≡ old.pins → face_of (view_of new) ≡ face_of (view_of old)
-jobs_same old new begun flight pins =
-    λ i. record { begun = (begun i).jobs.count; rounds = (begun i).rounds; flight = option_map flying_of (flight i); made = (pins i).made; held = map limited_of (pins i).pins }
+pub jobs_same : {D Page Port : Type 0} {kind : Ghosts D Page Port} (old new : Core D Page Port kind) → new.begun ≡ old.begun → new.flights ≡ old.flights → new.pins ≡ old.pins → face_of (view_of new) ≡ face_of (view_of old)
+jobs_same old new begun flights pins =
+    λ i. record { begun = (begun i).jobs; rounds = (begun i).rounds; flights = flights i; made = (pins i).made; held = map limited_of (pins i).pins }
 
 -- what it held it holds
 pub before_holds : (Tells : Type 0) → Tells → (old new : View) (s : Stored) → face_of new ≡ face_of old → new.pins ≡ old.pins → IsAsBefore Tells old new → Holds old s → Holds new s
 before_holds Tells told old new s face pins is holds =
     let mid = with_state old new.state in
-    let rest : IsBeside mid new = record { levels = is.levels; retired = is.retired; flight = ap (λ (face : Face). face.flight) face; begun = ap (λ (face : Face). face.begun) face; rounds = ap (λ (face : Face). face.rounds) face; pins = pins } in
+    let rest : IsBeside mid new = record { levels = is.levels; retired = is.retired; flights = ap (λ (face : Face). face.flights) face; begun = ap (λ (face : Face). face.begun) face; rounds = ap (λ (face : Face). face.rounds) face; pins = pins } in
     let like = like_holds old new.state is.state s holds in
     record {
       remembers = subst (Remembers s new.state) (sym is.levels) like.remembers;

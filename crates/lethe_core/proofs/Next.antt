@@ -1,6 +1,6 @@
--- What a step of a store comes to whose job in flight stays.
+-- What a step of a store comes to whose jobs in flight stay.
 use Rattle.std.proofs.Common.{◌≡◌, ◌≤◌, ◌⊎◌, inl, inr, ℕ, ◌+◌, List, [], ◌++◌, length, None, refl, sym, ap, ◌∙◌, subst, arith}
-use Rattle.std.specs.Prelude.{All, Contains, IfSome, IsTrue}
+use Rattle.std.specs.Prelude.{All, Contains, IsTrue}
 use Rattle.lethe_base.specs.History.{History}
 use Rattle.lethe_base.specs.declared.config.Fields.{Fields}
 use Rattle.lethe_base.specs.declared.name.Kind.TheVariants.{Page}
@@ -22,6 +22,7 @@ use Rattle.lethe_state.specs.Remembered.{IsCurrent, Remembers}
 use Rattle.lethe_state.specs.Room.{IsFlushed, IsFrozen, IsStepFrom}
 use Rattle.lethe_state.specs.Writable.{IsWritable}
 use Rattle.lethe_state.specs.declared.state.State.{State}
+use Rattle.lethe_core.specs.Flights.{AreFlights}
 use Rattle.lethe_core.specs.Keeps.{Keeps, MayStep}
 use Rattle.lethe_pins.specs.Held.{AreHeld, Held, is_named}
 use Rattle.lethe_core.specs.Pinned.{AreKept, AreTimely}
@@ -32,9 +33,8 @@ use Rattle.lethe_core.proofs.Beside.{names_beside_at}
 use Rattle.lethe_core.proofs.Carried.{IsCarried, one_kept}
 use Rattle.lethe_core.proofs.Hindered.{drawn_on, flies_on}
 use Rattle.lethe_core.proofs.Kept.{carried_same, page_cited, pages_stay, retired_beside}
-use Rattle.lethe_core.proofs.Retired.{retired_same}
 use Rattle.lethe_core.proofs.Standing.{next_drawn, next_stands_now, stands_for, stands_holds}
-use Rattle.lethe_core.proofs.Timely.{timely_kept}
+use Rattle.lethe_core.proofs.Timely.{retired_same, timely_kept}
 
 pub frozen_for : (h : History) (s t : Stored) (state : State) (levels : List (List Parts)) → Remembers s state levels → s.frozen ≡ None → IsFor h s → IsFrozen s t → IsFor h t
 frozen_for h s t state levels remembers none stands is = subst (IsFor h) (sym is.is) (froze_for s remembers.coherent is.segment (is.segment + 1) none h stands)
@@ -48,7 +48,7 @@ flushed_recorded h s t stands recorded is = subst AreLaterRecorded (sym is.is) (
 
 -- the numbers of the pages that lie beside what is stored were drawn
 pub beside_drawn : (view : View) → AreDrawn view.state.next (names_beside view) → AreDrawn view.state.next (names_in (beside_in view))
-beside_drawn view drawn = subst (AreDrawn view.state.next) (sym (names_beside_at view.disk.directory view.retired view.flight)) drawn
+beside_drawn view drawn = subst (AreDrawn view.state.next) (sym (names_beside_at view.disk.directory view.retired view.flights)) drawn
 
 -- Steps that the state gives
 
@@ -155,7 +155,7 @@ module _ (P : Stored → Stored → Type 0) (Tells : Type 0) (old : View) (heade
           let holds = stands_holds config h old stands may.runs in
           let t = next_is told s holds in
           next_stands_now config h old new stands may.runs t.0 count t.2.config (stays h s t.0 holds (stands_for config h old stands may.runs) t.1) (behind told s t.0 holds t.1 t.2)
-          (subst (λ flight. IfSome flight (λ (flying : Flying). IsCounted flying.task)) (sym carried.flight) stands.counted)
+          (subst (All (λ (flying : Flying). IsCounted flying.task)) (sym carried.flights) stands.counted)
           (later h s t.0 holds (stands_for config h old stands may.runs) stands.recorded t.1) (next_timely told config.threshold h s holds (stands.timely may.runs))
 
       pub next_keeps : ((h : History) (s t : Stored) → Holds old s → IsFor h s → AreLaterRecorded s → P s t → AreLaterRecorded t) → (segments : ℕ) → IsStepFrom segments old.state headers step → new.state.manifest ≡ step.manifest → new.state.next ≡ step.manifest.next → new.state.count ≡ old.state.count
@@ -169,11 +169,12 @@ module _ (P : Stored → Stored → Type 0) (Tells : Type 0) (old : View) (heade
               writable = writable;
               small = small;
               count = carried.levels ∙ may.sound.count ∙ ap (λ (fields : Fields). fields.levels + 1) (sym config);
-              flies = subst (λ flight. IfSome flight (IsFlying new.state)) (sym carried.flight)
-                  (flies_on old.state new.state (ap (λ (fields : Fields). fields.levels) config) old.flight may.sound.flies);
-              loose = subst (λ flight. AreDrawn new.state.next (names_in (loose_in flight))) (sym carried.flight)
-                  (drawn_on old.state.next new.state.next (names_in (loose_in old.flight)) (omega (arith, number, above, next)) may.sound.loose);
-              drawn = λ told. subst (AreDrawn new.state.next) (λ i. (sym carried.retired) i ++ names_in (loose_in ((sym carried.flight) i)))
+              flights = subst AreFlights (sym carried.flights) may.sound.flights;
+              flies = subst (All (IsFlying new.state)) (sym carried.flights)
+                  (flies_on old.state new.state (ap (λ (fields : Fields). fields.levels) config) old.flights may.sound.flies);
+              loose = subst (λ flights. AreDrawn new.state.next (names_in (loose_in flights))) (sym carried.flights)
+                  (drawn_on old.state.next new.state.next (names_in (loose_in old.flights)) (omega (arith, number, above, next)) may.sound.loose);
+              drawn = λ told. subst (AreDrawn new.state.next) (λ i. (sym carried.retired) i ++ names_in (loose_in ((sym carried.flights) i)))
                   (drawn_on old.state.next new.state.next (names_beside old) (omega (arith, number, above, next)) (may.sound.drawn told));
               pins = subst AreHeld (sym carried.pins) may.sound.pins;
               pages = subst (λ (held : Held). All (λ pin. All (λ name. name.kind ≡ Page) pin.names) held.pins) (sym carried.pins) may.sound.pages;

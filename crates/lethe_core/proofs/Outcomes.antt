@@ -52,10 +52,10 @@ module _ (chosen : Stored → Option Plan) where
       omega (arith, less, rest)
 
 -- so does each of those that make room
-pub uncrowded_few : (flight : Option Flying) (s : Stored) (outcomes : List Outcome) (t : Stored) → IsCoherent s → HasCountedErases s → IsUncrowded flight s outcomes t → length outcomes + jobs_left t ≤ jobs_left s
-uncrowded_few None s outcomes t coherent counted (inl all) = outcomes_few room_choice s outcomes t coherent counted (ended_some room_choice s outcomes t all.1)
-uncrowded_few None s outcomes t coherent counted (inr none) = none_few s outcomes t none.1 none.2
-uncrowded_few (Some flying) s outcomes t coherent counted is = none_few s outcomes t is.0 is.1
+pub uncrowded_few : (flights : List Flying) (s : Stored) (outcomes : List Outcome) (t : Stored) → IsCoherent s → HasCountedErases s → IsUncrowded flights s outcomes t → length outcomes + jobs_left t ≤ jobs_left s
+uncrowded_few [] s outcomes t coherent counted (inl all) = outcomes_few room_choice s outcomes t coherent counted (ended_some room_choice s outcomes t all.1)
+uncrowded_few [] s outcomes t coherent counted (inr none) = none_few s outcomes t none.1 none.2
+uncrowded_few (flying ∷ more) s outcomes t coherent counted is = none_few s outcomes t is.0 is.1
 
 -- behind a job the retired pages are those that a pin names
 named_behind : (outcomes : List Outcome) (next : Outcome) (pins : List Pin) (before retired : List Name) → AreNamed pins retired → AreRetiredBehind (outcomes ++ next ∷ []) pins before retired

@@ -276,6 +276,7 @@ module _ (view : View) (held : Held) where
       writable = sound.writable;
       small = sound.small;
       count = sound.count;
+      flights = sound.flights;
       flies = sound.flies;
       loose = sound.loose;
       drawn = sound.drawn;

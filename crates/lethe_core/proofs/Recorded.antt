@@ -1,6 +1,6 @@
 -- The record of a change is appended.
 use Rattle.std.proofs.Common.{◌≡◌, ◌⊎◌, ◌<◌, inl, inr, ℕ, ◌+◌, ◌-◌, List, [], ◌∷◌, ◌++◌, map, length, get_or, cond, Option, Some, None, refl, sym, ap, ◌∙◌, subst, arith}
-use Rattle.std.specs.Prelude.{All, AllPairs, Contains, IfSome, IsSome, false, option_to_list, slice_index}
+use Rattle.std.specs.Prelude.{All, AllPairs, Contains, IsSome, false, option_to_list, slice_index}
 use Rattle.std.specs.FinMap.{insert}
 use Rattle.std.proofs.lemmas.List.Elements.{All-contains, All-weaker, Contains-append_left}
 use Rattle.lethe_base.specs.History.{History, Change}
@@ -34,7 +34,6 @@ use Rattle.lethe_stored.proofs.Parts.{active_part}
 use Rattle.lethe_stored.proofs.Steps.{append_encodes, append_keeps, active_changed, stored_appended}
 use Rattle.lethe_advance.specs.Settled.{AreUncited, HasOnly, names_in}
 use Rattle.lethe_advance.specs.Untorn.{IsUntorn}
-use Rattle.lethe_clean.proofs.Copied.{all_copied}
 use Rattle.lethe_clean.proofs.Stays.{record_untorn}
 use Rattle.lethe_manifest.specs.Manifests.{AreErases}
 use Rattle.lethe_manifest.specs.declared.manifest.Manifest.{Manifest}
@@ -64,11 +63,10 @@ last_number (Some older) number = refl
 pub active_number : (s : Stored) (view : View) → Remembers s view.state view.levels → slice_index view.state.manifest.segments (length view.state.manifest.segments - 1) ≡ s.active.no
 active_number s view is = ap (λ l. slice_index l (length l - 1)) (ap (λ (m : Manifest). m.segments) is.manifest ∙ is.coherent.cites) ∙ last_number s.frozen s.active.no
 
--- a job in flight merges or sweeps the same files and applies the same erases
+-- the jobs in flight merge or sweep the same files and apply the same erases
 tasked_appended : (s : Stored) (next : Record) → count_of s < record_seq next → AllPairs (λ a b. a.seq < b.seq) (pending_with (pending_of s) next) → IsCoherent (appended s next)
-    → (flight : Option Flying) → IfSome flight (IsTasked s) → IfSome flight (IsTasked (appended s next))
-tasked_appended s next behind rise coherent None is = tt
-tasked_appended s next behind rise coherent (Some flying) is = stays_appended s flying.task is next behind rise coherent
+    → (flights : List Flying) → All (IsTasked s) flights → All (IsTasked (appended s next)) flights
+tasked_appended s next behind rise coherent flights are = All-weaker (IsTasked s) (IsTasked (appended s next)) (λ flying is. stays_appended s flying.task is next behind rise coherent) flights are
 
 -- objects beside the one that is written
 all_beside : (d : Directory) (name : Name) (bytes : List ℕ) (objects : List (Name × List ℕ)) → All (λ named. named.0 ≡ name → ⊥) objects → All (HasObject d) objects → All (HasObject (insert d name bytes)) objects
@@ -172,7 +170,7 @@ module _ (view : View) (s : Stored) (holds : Holds view s) (next : Record) (spel
         subst (λ d. All (HasObject d) (beside_in view)) (sym inserted) (all_beside view.disk.directory (segment_name s.active.no) (segment_bytes s.active.no (longer (addition s next))) (beside_in view) apart running.only.there)
 
     same_beside : beside_in (moved view disk' faults' state') ≡ beside_in view
-    same_beside = beside_stays view.disk.directory disk'.directory view.retired view.flight beside_there
+    same_beside = beside_stays view.disk.directory disk'.directory view.retired view.flights beside_there
 
     pub holds_longer : (end : ℕ) → IsSynced disk' → EndsAt disk' (segment_name number) s.active.no (longer (addition s next)) end → IsNext next end view.state state'
         → AreErases (pending_with view.state.pending next) → Holds (moved view disk' faults' state') (appended s next)
@@ -194,12 +192,12 @@ module _ (view : View) (s : Stored) (holds : Holds view s) (next : Record) (spel
             only = subst (λ l. HasOnly (appended s next) l disk'.directory) (sym same_beside) (record { only = within; there = beside_there });
             uncited = subst (AreUncited (appended s next)) (sym same_beside) running.uncited;
             untorn = subst (IsUntorn (appended s next)) (sym inserted) (record_untorn s view.disk.directory next coherent running.untorn);
-            copied = all_copied s (appended s next) refl (λ file there. there) (loose_in view.flight) running.copied;
+            copied = running.copied;
             kept = running.kept;
             rising = running.rising;
             ends = subst (EndsAt disk' (segment_name s.active.no) s.active.no (longer (addition s next))) (sym is.end_is) (subst (λ n. EndsAt disk' n s.active.no (longer (addition s next)) end) name_is ends);
             current = both.1;
-            tasked = tasked_appended s next behind rise coherent_next view.flight running.tasked;
+            tasked = tasked_appended s next behind rise coherent_next view.flights running.tasked;
           };
         }
 
@@ -236,7 +234,7 @@ module _ (view : View) (s : Stored) (next : Record) (d : Directory) (is : d ≡ 
       timely_more threshold h view.pins.pins view.retired d (record { caller = caller; call = call; did = Done }) (sym with.clock ∙ for.clock)
       (timely_kept threshold h view.pins.pins view.retired view.retired view.disk.directory d record_kept timely (λ name there.
       let drawn = All-contains (λ (name : Name). (name.kind ≡ kinds.Page) × (name.no < view.state.next)) (names_beside view) name (sound.drawn told).each
-      (Contains-append_left view.retired (names_in (loose_in view.flight)) name there) in
+      (Contains-append_left view.retired (names_in (loose_in view.flights)) name there) in
       inl (there, page_stays name drawn.0)))
 
 -- the disk failed in the change, and is left for the history before it, or for that with it

@@ -1,6 +1,6 @@
 -- Room for a record.
-use Rattle.std.proofs.Common.{◌≡◌, ◌<◌, inl, inr, List, [], ◌∷◌, Option, Some, None, refl, ap, ◌∙◌, arith}
-use Rattle.std.specs.Prelude.{Bool, IsSome, IsTrue, false, option_map}
+use Rattle.std.proofs.Common.{◌≡◌, ◌<◌, inl, inr, List, [], ◌∷◌, refl, ap, ◌∙◌, arith}
+use Rattle.std.specs.Prelude.{Bool, IsTrue, false}
 use Rattle.lethe_base.specs.declared.config.Fields.{Fields}
 use Rattle.lethe_manifest.specs.declared.manifest.Manifest.{Manifest}
 use Rattle.lethe_stored.specs.Stored.{Stored}
@@ -40,23 +40,19 @@ room_ready old middle cleared new unfrozen frozen merged some =
 pub clash : (b : Bool) → IsTrue b → b ≡ false → ⊥
 clash b on off = cc
 
-pub some_mapped : {A B : Type 0} (f : A → B) (o : Option A) → IsSome o → option_map f o ≡ None → ⊥
-some_mapped f None some none = cc
-some_mapped f (Some x) some none = cc
-
 -- Merges where level 0 is crowded and no job is in flight
 
-pub still_uncrowded : (flight : Option Flying) (s : Stored) → (flight ≡ None → IsCrowded s → ⊥) → IsUncrowded flight s [] s
-still_uncrowded None s few = inr (few refl, refl, refl)
-still_uncrowded (Some flying) s few = (refl, refl)
+pub still_uncrowded : (flights : List Flying) (s : Stored) → (flights ≡ [] → IsCrowded s → ⊥) → IsUncrowded flights s [] s
+still_uncrowded [] s few = inr (few refl, refl, refl)
+still_uncrowded (flying ∷ more) s few = (refl, refl)
 
-pub merged_uncrowded : (flight : Option Flying) (s : Stored) (outcomes : List Outcome) (t : Stored) → flight ≡ None → IsCrowded s → AreOutcomes s outcomes t → IsUncrowded flight s outcomes t
-merged_uncrowded None s outcomes t free many are = inl (many, are)
-merged_uncrowded (Some flying) s outcomes t free many are = absurd (cc)
+pub merged_uncrowded : (flights : List Flying) (s : Stored) (outcomes : List Outcome) (t : Stored) → flights ≡ [] → IsCrowded s → AreOutcomes s outcomes t → IsUncrowded flights s outcomes t
+merged_uncrowded [] s outcomes t free many are = inl (many, are)
+merged_uncrowded (flying ∷ more) s outcomes t free many are = absurd (cc)
 
-pub merged_in_part : (flight : Option Flying) (s t : Stored) → flight ≡ None → IsCrowded s → (outcomes : List Outcome) × AreSomeOutcomes s outcomes t → IsMergedInPart flight s t
-merged_in_part None s t free many some = inr (many, some.0, some.1)
-merged_in_part (Some flying) s t free many some = absurd (cc)
+pub merged_in_part : (flights : List Flying) (s t : Stored) → flights ≡ [] → IsCrowded s → (outcomes : List Outcome) × AreSomeOutcomes s outcomes t → IsMergedInPart flights s t
+merged_in_part [] s t free many some = inr (many, some.0, some.1)
+merged_in_part (flying ∷ more) s t free many some = absurd (cc)
 
 -- Room that was made, all of it or in part
 
@@ -64,18 +60,18 @@ all_some : (s : Stored) (outcomes : List Outcome) (t : Stored) → AreOutcomes s
 all_some s [] t are = are.1
 all_some s (outcome ∷ more) t are = (are.0, all_some outcome.to more t are.1)
 
-uncrowded_in_part : (flight : Option Flying) (s : Stored) (outcomes : List Outcome) (t : Stored) → IsUncrowded flight s outcomes t → IsMergedInPart flight s t
-uncrowded_in_part None s outcomes t (inl all) = inr (all.0, outcomes, all_some s outcomes t all.1)
-uncrowded_in_part None s outcomes t (inr none) = inl none.2
-uncrowded_in_part (Some flying) s outcomes t is = is.1
+uncrowded_in_part : (flights : List Flying) (s : Stored) (outcomes : List Outcome) (t : Stored) → IsUncrowded flights s outcomes t → IsMergedInPart flights s t
+uncrowded_in_part [] s outcomes t (inl all) = inr (all.0, outcomes, all_some s outcomes t all.1)
+uncrowded_in_part [] s outcomes t (inr none) = inl none.2
+uncrowded_in_part (flying ∷ more) s outcomes t is = is.1
 
-pub room_begun : (flight : Option Flying) (s : Stored) (outcomes : List Outcome) (t : Stored) → IsRoomMadeBy flight s outcomes t → IsRoomBegun flight s t
-room_begun flight s outcomes t (inl room) = inl room.2
-room_begun flight s outcomes t (inr cleared) = inr (
+pub room_begun : (flights : List Flying) (s : Stored) (outcomes : List Outcome) (t : Stored) → IsRoomMadeBy flights s outcomes t → IsRoomBegun flights s t
+room_begun flights s outcomes t (inl room) = inl room.2
+room_begun flights s outcomes t (inr cleared) = inr (
   cleared.0,
   record {
     middle = cleared.1.middle;
     unfrozen = cleared.1.unfrozen;
-    rest = inr (cleared.1.cleared, cleared.1.frozen, cleared.1.coherent, uncrowded_in_part flight cleared.1.cleared outcomes t cleared.1.merges);
+    rest = inr (cleared.1.cleared, cleared.1.frozen, cleared.1.coherent, uncrowded_in_part flights cleared.1.cleared outcomes t cleared.1.merges);
   },
 )

@@ -1,6 +1,6 @@
 -- What stands where the disk is in the store's hands.
 use Rattle.std.proofs.Common.{◌≡◌, ◌<◌, ◌≤◌, inl, inr, ℕ, ◌+◌, [], ◌∷◌, ◌++◌, length, Option, Some, None, refl, sym, ◌∙◌, subst, arith}
-use Rattle.std.specs.Prelude.{IfSome}
+use Rattle.std.specs.Prelude.{All}
 use Rattle.std.proofs.lemmas.List.{length_push}
 use Rattle.lethe_base.specs.History.{History, Change, AreDone, IsLegal}
 use Rattle.lethe_base.specs.Limits.{max_place}
@@ -91,7 +91,7 @@ module _ (config : Fields) (h : History) (view : View) (stands : StandsNow confi
 
 -- what a store that takes changes stands for
 pub open_stands : (config : Fields) (h : History) (view : View) (s : Stored) → IsLegal h → AreDone h → view.state.count ≡ length h → s.manifest.config ≡ config → IsFor h s → Holds view s
-    → IfSome view.flight (λ flying. IsCounted flying.task) → AreLaterRecorded s → AreTimely config.threshold h view.pins.pins view.retired view.disk.directory → StandsNow config h view
+    → All (λ flying. IsCounted flying.task) view.flights → AreLaterRecorded s → AreTimely config.threshold h view.pins.pins view.retired view.disk.directory → StandsNow config h view
 open_stands config h view s legal done count config_is stands holds counted recorded timely = record {
   legal = legal;
   count = count;
@@ -107,7 +107,7 @@ open_stands config h view s legal done count config_is stands holds counted reco
 
 -- it stands for the same history where what is stored next does
 pub next_stands_now : (config : Fields) (h : History) (old new : View) (stands : StandsNow config h old) → old.state.stopped ≡ None → (t : Stored) → new.state.count ≡ old.state.count
-    → t.manifest.config ≡ stands.stored.manifest.config → IsFor h t → Holds new t → IfSome new.flight (λ flying. IsCounted flying.task) → AreLaterRecorded t
+    → t.manifest.config ≡ stands.stored.manifest.config → IsFor h t → Holds new t → All (λ flying. IsCounted flying.task) new.flights → AreLaterRecorded t
     → AreTimely config.threshold h new.pins.pins new.retired new.disk.directory → StandsNow config h new
 next_stands_now config h old new stands runs t count same for holds counted recorded timely =
     open_stands config h new t stands.legal (stands_done config h old stands runs) (count ∙ stands.count) (same ∙ stands.config_is) for holds counted recorded timely
@@ -115,7 +115,7 @@ next_stands_now config h old new stands runs t count same for holds counted reco
 -- and one in which the disk failed in one more change
 pub stopped_stands : (config : Fields) (h : History) (change : Change) (before behind : ℕ) (view : View) (s : Stored) → IsLegal h → AreDone h → length h < max_place → change.did ≡ Failed before behind
     → view.state.count ≡ length h + 1 → view.state.stopped ≡ Some (length h + 1) → Remembers s view.state view.levels → s.manifest.config ≡ config → IsFor h s → IsLeft config view.disk h (retried change)
-    → IfSome view.flight (λ flying. IsCounted flying.task) → AreLaterRecorded s → StandsNow config (h ++ change ∷ []) view
+    → All (λ flying. IsCounted flying.task) view.flights → AreLaterRecorded s → StandsNow config (h ++ change ∷ []) view
 stopped_stands config h change before behind view s legal done few failed count stopped remembers config_is stands left counted recorded = record {
   legal = legal_failed h change before behind legal done few failed;
   count = count ∙ sym (length_push h change);
@@ -147,7 +147,7 @@ abbrev pub beside : View → View → State → View
 beside old new state = record old { disk = new.disk; faults = new.faults; state = state }
 
 pub is_beside : (old new : View) (state : State) → new.state ≡ state → IsBeside old new → beside old new state ≡ new
-is_beside old new state same rest = λ i. record new { state = (sym same) i; levels = (sym rest.levels) i; retired = (sym rest.retired) i; flight = (sym rest.flight) i; begun = (sym rest.begun) i; rounds = (sym rest.rounds) i; pins = (sym rest.pins) i }
+is_beside old new state same rest = λ i. record new { state = (sym same) i; levels = (sym rest.levels) i; retired = (sym rest.retired) i; flights = (sym rest.flights) i; begun = (sym rest.begun) i; rounds = (sym rest.rounds) i; pins = (sym rest.pins) i }
 
 pub idle_back : (old new : Seen) → IsIdle old new → IsTakenBack old new
 idle_back old new idle = record { directory = idle.directory; images = λ c here. (idle.left old.moment c).0 (subst (λ m. new.left m c) idle.moment here) }
@@ -156,8 +156,8 @@ module _ (old new : View) (back : IsTakenBack old.disk new.disk) where
   back_beside : (s : Stored) → IsRunning old s → IsRunning (beside old new old.state) s
   back_beside s running = record {
     settled = settled_back old.disk new.disk s back running.settled;
-    only = subst (λ d. HasOnly s (beside_at d old.retired old.flight) d) (sym back.directory) running.only;
-    uncited = subst (λ d. AreUncited s (beside_at d old.retired old.flight)) (sym back.directory) running.uncited;
+    only = subst (λ d. HasOnly s (beside_at d old.retired old.flights) d) (sym back.directory) running.only;
+    uncited = subst (λ d. AreUncited s (beside_at d old.retired old.flights)) (sym back.directory) running.uncited;
     untorn = subst (IsUntorn s) (sym back.directory) running.untorn;
     copied = running.copied;
     kept = running.kept;
@@ -212,6 +212,7 @@ sound_back Tells old new back same rest sound = subst (IsSound Tells) (is_beside
   writable = sound.writable;
   small = sound.small;
   count = sound.count;
+  flights = sound.flights;
   flies = sound.flies;
   loose = sound.loose;
   drawn = sound.drawn;

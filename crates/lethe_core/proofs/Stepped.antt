@@ -1,6 +1,6 @@
 -- A freeze and a flush that were carried out: what is stored next is held.
 use Rattle.std.proofs.Common.{◌≡◌, ◌+◌, inl, inr, ℕ, false, List, ◌++◌, length, All, AllPairs, Option, Some, None, refl, sym, ap, ◌∙◌, subst, arith}
-use Rattle.std.specs.Prelude.{◌==◌, Contains, IfSome, IsSome, IsTrue, filter}
+use Rattle.std.specs.Prelude.{◌==◌, Contains, IsSome, IsTrue, filter}
 use Rattle.std.specs.declared.cmp.Ordering.TheVariants.{Less}
 use Rattle.std.proofs.lemmas.Bool.{ne_eqb}
 use Rattle.std.proofs.lemmas.List.Elements.{All-weaker, Contains-append_right, filter-append}
@@ -22,16 +22,14 @@ use Rattle.lethe_advance.specs.Steps.{IsStep}
 use Rattle.lethe_advance.specs.Untorn.{IsUntorn}
 use Rattle.lethe_advance.specs.declared.new_header.NewHeader.{NewHeader}
 use Rattle.lethe_advance.specs.declared.step.Step.{Step}
-use Rattle.lethe_clean.specs.Copied.{IsCopied}
-use Rattle.lethe_clean.proofs.Copied.{all_copied}
 use Rattle.lethe_clean.proofs.Stays.{step_untorn}
 use Rattle.lethe_state.specs.Remembered.{IsCurrent, IsFrozenIn, Remembers}
 use Rattle.lethe_state.specs.Room.{IsFlushed, IsFrozen, IsFrozenWith, frozen_len, unfrozen}
 use Rattle.lethe_state.specs.declared.state.State.{State}
 use Rattle.lethe_state.proofs.Stepping.{flush_remembered, freeze_remembered}
-use Rattle.lethe_core.specs.Running.{Holds, IsRunning, IsSmall, IsTasked}
+use Rattle.lethe_core.specs.Running.{Holds, IsCopiedFrom, IsRunning, IsSmall, IsTasked}
 use Rattle.lethe_pins.specs.Held.{Held, is_named}
-use Rattle.lethe_core.specs.View.{Flying, View, beside_at, beside_in, loose_in}
+use Rattle.lethe_core.specs.View.{Flying, View, beside_at, beside_in}
 use Rattle.lethe_core.proofs.Beside.{beside_stays}
 use Rattle.lethe_core.proofs.Carried.{IsCarried, active_ends, frozen_ends}
 use Rattle.lethe_core.proofs.Kept.{pages_stay}
@@ -73,7 +71,7 @@ some_segment (Some segment) (Some buffer) is some = some
 pub frozen_there : (s : Stored) (state : State) (levels : List (List Parts)) → Remembers s state levels → IsSome state.frozen → IsSome s.frozen
 frozen_there s state levels is some = some_segment s.frozen state.frozen is.frozen some
 
--- The files and the task of a job
+-- The files and the tasks of jobs
 
 -- files of level 0 come in front
 risen : (made files : List StoredFile) → All (λ file. file.level ≡ 0) made → AreRising files → AreRising (made ++ files)
@@ -101,17 +99,6 @@ flushed_stay s t is file there = subst (λ (x : Stored). Contains x.files file) 
 
 pub frozen_stay : (s t : Stored) → IsFrozen s t → (file : StoredFile) → Contains s.files file → Contains t.files file
 frozen_stay s t is file there = subst (λ (x : Stored). Contains x.files file) (sym is.is) there
-
--- so copied pages stay so
-flushed_copied : (s t : Stored) → IsFlushed s t → (loose : List (Name × List ℕ)) → All (IsCopied s) loose → All (IsCopied t) loose
-flushed_copied s t is loose copied = all_copied s t (ap (λ (x : Stored). x.manifest.config.levels) is.is) (flushed_stay s t is) loose copied
-
-frozen_copied : (s t : Stored) → IsFrozen s t → (loose : List (Name × List ℕ)) → All (IsCopied s) loose → All (IsCopied t) loose
-frozen_copied s t is loose copied = all_copied s t (ap (λ (x : Stored). x.manifest.config.levels) is.is) (frozen_stay s t is) loose copied
-
-if_tasked : (s t : Stored) (flight : Option Flying) → ((flying : Flying) → IsTasked s flying → IsTasked t flying) → IfSome flight (IsTasked s) → IfSome flight (IsTasked t)
-if_tasked s t None stays is = tt
-if_tasked s t (Some flying) stays is = stays flying is
 
 -- What is stored next
 
@@ -142,20 +129,20 @@ module _ (Tells : Type 0) (s t : Stored) (old new : View) (headers : List NewHea
   files = carried.files told s t (beside_in old) holds.running is holds.remembers.files
 
   same_beside : beside_in new ≡ beside_in old
-  same_beside = (λ i. beside_at new.disk.directory (carried.retired i) (carried.flight i)) ∙ beside_stays old.disk.directory new.disk.directory old.retired old.flight done.1.there
+  same_beside = (λ i. beside_at new.disk.directory (carried.retired i) (carried.flights i)) ∙ beside_stays old.disk.directory new.disk.directory old.retired old.flights done.1.there
 
   next_untorn : IsUntorn t new.disk.directory
   next_untorn = step_untorn s t (beside_in old) (beside_in old) headers step old.disk.directory new.disk.directory holds.remembers.coherent is holds.running.only holds.running.untorn
       (carried.kept told s t (beside_in old) holds.running is) (carried.gate told s t (beside_in old) holds.running is)
 
   next_running : IsCurrent t new.state → EndsAt new.disk (segment_name t.active.no) t.active.no t.active.records new.state.end → AreRising t.files → ((flying : Flying) → IsTasked s flying → IsTasked t flying)
-      → All (IsCopied t) (loose_in old.flight) → ((file : StoredFile) → Contains s.files file → Contains t.files file) → IsRunning new t
-  next_running current ends rising stays copied stay = record {
+      → ((file : StoredFile) → Contains s.files file → Contains t.files file) → IsRunning new t
+  next_running current ends rising stays stay = record {
     settled = done.0;
     only = subst (λ l. HasOnly t l new.disk.directory) (sym same_beside) done.1;
     uncited = subst (AreUncited t) (sym same_beside) is.left_uncited;
     untorn = next_untorn;
-    copied = subst (λ flight. All (IsCopied t) (loose_in flight)) (sym carried.flight) copied;
+    copied = subst (All IsCopiedFrom) (sym carried.flights) holds.running.copied;
     kept = λ name named. elim (holds.running.kept name (subst (λ (held : Held). IsTrue (is_named held.pins name)) carried.pins named)) [
       | inl page ↦ inl (pages_stay s.files t.files stay name page)
       | inr retired ↦ inr (subst (λ names. Contains names name) (sym carried.retired) retired)
@@ -163,7 +150,7 @@ module _ (Tells : Type 0) (s t : Stored) (old new : View) (headers : List NewHea
     rising = rising;
     ends = ends;
     current = current;
-    tasked = subst (λ flight. IfSome flight (IsTasked t)) (sym carried.flight) (if_tasked s t old.flight stays holds.running.tasked);
+    tasked = subst (All (IsTasked t)) (sym carried.flights) (All-weaker (IsTasked s) (IsTasked t) stays old.flights holds.running.tasked);
   }
 
   pub flushed_holds : IsFlushed s t → new.state ≡ unfrozen step.manifest old.state → Image old.disk old.disk.directory → Holds new t
@@ -175,7 +162,7 @@ module _ (Tells : Type 0) (s t : Stored) (old new : View) (headers : List NewHea
       record {
         remembers = both.0;
         running = next_running both.1 (subst (EndsAt new.disk (segment_name t.active.no) t.active.no t.active.records) (sym (ap (λ (state : State). state.end) state_is)) ends)
-            (flushed_rising s t flushed holds.running.rising) (flushed_tasked s t flushed) (flushed_copied s t flushed (loose_in old.flight) holds.running.copied) (flushed_stay s t flushed);
+            (flushed_rising s t flushed holds.running.rising) (flushed_tasked s t flushed) (flushed_stay s t flushed);
       }
 
   pub frozen_holds : IsFrozen s t → old.state.frozen ≡ None → IsFrozenWith step.manifest old.state new.state → Holds new t
@@ -187,5 +174,5 @@ module _ (Tells : Type 0) (s t : Stored) (old new : View) (headers : List NewHea
       record {
         remembers = other_files t new.state old.levels new.levels files both.0;
         running = next_running both.1 (subst (EndsAt new.disk (segment_name t.active.no) t.active.no t.active.records) (sym with.end_is) ends)
-            (frozen_rising s t frozen holds.running.rising) (frozen_tasked s t without frozen) (frozen_copied s t frozen (loose_in old.flight) holds.running.copied) (frozen_stay s t frozen);
+            (frozen_rising s t frozen holds.running.rising) (frozen_tasked s t without frozen) (frozen_stay s t frozen);
       }

@@ -1,4 +1,4 @@
--- What pins keep isn't overdue before their limits, and each object that one names stays as it is.
+-- What pins keep isn't overdue before their limits, each object that one names stays as it is, and which pages are retired behind steps.
 use Rattle.std.proofs.Common.{◌≡◌, ◌⊎◌, ◌<◌, ◌≤◌, inl, inr, ℕ, ◌+◌, List, [], ◌∷◌, ◌++◌, true, eqb, Option, refl, sym, ap, subst, arith}
 use Rattle.std.specs.Prelude.{All, Contains, IsTrue, unwrap_or}
 use Rattle.std.proofs.lemmas.Bool.{and_from, eq-eqb}
@@ -18,7 +18,7 @@ use Rattle.lethe_disk.specs.Directory.{Directory, content, object}
 use Rattle.lethe_install.proofs.Parted.{same_name}
 use Rattle.lethe_pins.specs.Held.{has_name, is_named}
 use Rattle.lethe_pins.specs.declared.pin.Pin.{Pin}
-use Rattle.lethe_core.specs.Pinned.{AreKept, AreNamed, AreTimely, IsPageUntil}
+use Rattle.lethe_core.specs.Pinned.{AreKept, AreNamed, AreRetiredFrom, AreTimely, IsPageUntil}
 
 -- Which names are named
 
@@ -141,3 +141,23 @@ module _ (threshold : ℕ) (h : History) (pins : List Pin) where
 -- where nothing is pinned and nothing is retired
 pub timely_none : (threshold : ℕ) (h : History) (d : Directory) → AreTimely threshold h [] [] d
 timely_none threshold h d = record { limits = All-nil (λ (pin : Pin). (after h).clock < pin.limit); pinned = All-nil (λ (pin : Pin). All (λ name. IsPageUntil threshold pin.limit h (content d name)) pin.names); left = All-nil (λ (name : Name). IsPageUntil threshold ((after h).clock + 1) h (content d name)) }
+
+-- Which pages are retired behind steps
+
+-- those that were
+pub retired_same : (pins : List Pin) (old new : List Name) → new ≡ old → AreRetiredFrom pins old new
+retired_same pins old new same name there = inl (subst (λ names. Contains names name) same there)
+
+-- those that pins name
+pub retired_named : (pins : List Pin) (old new : List Name) → AreNamed pins new → AreRetiredFrom pins old new
+retired_named pins old new named name there = inr (All-contains (λ name. IsTrue (is_named pins name)) new name named there)
+
+-- one step after another
+pub retired_then : (pins : List Pin) (old mid new : List Name) → AreRetiredFrom pins old mid → AreRetiredFrom pins mid new → AreRetiredFrom pins old new
+retired_then pins old mid new one two name there =
+    elim (two name there) as (λ _. Contains old name ⊎ IsTrue (is_named pins name)) [ inl was ↦ one name was | inr named ↦ inr named ]
+
+-- where pins named all of them, they still do
+pub named_still : (pins : List Pin) (old new : List Name) → AreNamed pins old → AreRetiredFrom pins old new → AreNamed pins new
+named_still pins old new all from = all_from (λ name. IsTrue (is_named pins name)) new (λ name there.
+    elim (from name there) as (λ _. IsTrue (is_named pins name)) [ inl was ↦ All-contains (λ name. IsTrue (is_named pins name)) old name all was | inr named ↦ named ])

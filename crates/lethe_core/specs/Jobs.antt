@@ -8,13 +8,15 @@ use Rattle.lethe_job.specs.MadeOf.{pages_of, written_of}
 use Rattle.lethe_job.specs.Works.{AreOutputs, PlainTask, plain_task}
 use Rattle.lethe_job.specs.declared.job.Job.{Job}
 use Rattle.lethe_job.specs.declared.made.Made.{Made}
-use Rattle.lethe_core.specs.View.{Face, Flying, View}
+use Rattle.lethe_core.specs.Flights.{Flying, flying_by}
+use Rattle.lethe_core.specs.Flights as flights
+pub use flights.{with_page_of, with_pages, with_pages_of, without}
+use Rattle.lethe_core.specs.View.{Face, View}
 
--- the store has the job in flight, which was begun in the present round
+-- the store has the job in flight, by its number, which was begun in the present round
 pub record IsInFlight {D Page Port : Type 0} {kind : Ghosts D Page Port} (view : View) (job : Job D Page Port kind) : Type 0 where
   pub flying : Flying
-  pub is : view.flight ≡ Some flying
-  pub number : job.number.value.count ≡ flying.number
+  pub is : flying_by job.number view.flights ≡ Some flying
   pub task : plain_task job.task.value ≡ flying.task
   pub round : job.round ≡ view.rounds
 
@@ -39,8 +41,4 @@ pub record IsWhole {D Page Port : Type 0} {kind : Ghosts D Page Port} (job : Job
 
 -- one job more was begun, which has the next number and no page yet
 abbrev pub with_begun : Face → PlainTask → Face
-with_begun face task = record face { begun = face.begun + 1; flight = Some (record { number = face.begun; task = task; written = [] }) }
-
--- one page more is written
-abbrev pub with_page : Flying → Name × List ℕ → Flying
-with_page flying page = record flying { written = flying.written ++ page ∷ [] }
+with_begun face task = record face { begun = face.begun + 1; flights = face.flights ++ record { number = face.begun; task = task; written = [] } ∷ [] }

@@ -1,3 +1,4 @@
+pub mod Flights
 pub mod View
 pub mod Pinned
 pub mod Pins

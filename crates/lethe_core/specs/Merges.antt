@@ -1,5 +1,5 @@
 -- The merges and sweeps that a store carries out itself, one after another, where a caller makes room and where the clock goes on.
-use Rattle.std.specs.Prelude.{◌≡◌, ◌⊎◌, ◌≤◌, ℕ, ◌+◌, ◌*◌, false, List, [], ◌∷◌, length, sum_by, All, Option, Some, None, Contains}
+use Rattle.std.specs.Prelude.{◌≡◌, ◌⊎◌, ◌≤◌, ℕ, ◌+◌, ◌*◌, false, List, [], ◌∷◌, ◌++◌, length, sum_by, All, Option, Some, None, Contains}
 use Rattle.std.specs.List.{AllZip}
 use Rattle.lethe_base.specs.Limits.{max_place}
 use Rattle.lethe_base.specs.declared.config.Fields.{Fields}
@@ -16,20 +16,21 @@ use Rattle.lethe_advance.specs.Settled.{AreDrawn, names_in}
 use Rattle.lethe_advance.specs.Steps.{IsStep}
 use Rattle.lethe_pins.specs.Held.{is_named}
 use Rattle.lethe_pins.specs.declared.pin.Pin.{Pin}
-pub use Rattle.lethe_install.specs.Outcomes.{AreFirst, IsInstalled, new_names}
+pub use Rattle.lethe_install.specs.Outcomes.{AreFirst, IsInstalled, IsInstalledWith, new_names}
 use Rattle.lethe_install.specs.declared.steps.Installation.{Installation}
 use Rattle.lethe_state.specs.Left.{left_with}
 use Rattle.lethe_state.specs.Room.{HasRoom, IsFrozen, IsUnfrozen}
 pub use Rattle.lethe_job.specs.Shapes.{due_shape, shape_of}
 use Rattle.lethe_job.specs.MadeOf.{numbers_in}
 use Rattle.lethe_job.specs.Tasks.{IsCitedAs, counted_in}
-use Rattle.lethe_job.specs.Works.{AreOutputs, IsPlanned, PlainTask, inputs_in, plan_of, reads_of}
+use Rattle.lethe_job.specs.Works.{AreOutputs, IsPlanned, IsTaskFor, PlainTask, inputs_in, plan_of, reads_of}
 use Rattle.lethe_job.specs.declared.made.Made.{Made}
 use Rattle.lethe_core.specs.Pinned.{AreNamed}
 use Rattle.lethe_core.specs.Running.{Holds}
 use Rattle.lethe_core.specs.declared.choosing.Choice.{Choice}
 use Rattle.lethe_core.specs.declared.choosing.Choice.TheVariants.{Room, DueAt}
-use Rattle.lethe_core.specs.View.{Flying, View, beside_in}
+use Rattle.lethe_core.specs.Flights.{Flying, company_of, without}
+use Rattle.lethe_core.specs.View.{View, beside_in, loose_in}
 
 -- the plan that is picked at a clock: to make room the choice where no claim stands, and else the one that is due at a time, whatever the clock
 abbrev pub picked : Choice → Fields → Shape → ℕ → Option Plan
@@ -78,13 +79,20 @@ pub record Outcome : Type 0 where
   pub task : PlainTask
   pub to : Stored
 
--- The step from what is stored to the outcome of a task, behind which no page of a job is loose, and of what isn't cited any more just what a held pin names is left.
-pub record MayMerge (view : View) (s : Stored) (task : PlainTask) (t : Stored) (made : Installation) : Type 0 where
-  pub installed : IsInstalled s task t
+-- the jobs that are in flight behind a step: all but the one that it ends, if it does
+abbrev pub flights_behind : Option ℕ → List Flying → List Flying
+flights_behind None flights = flights
+flights_behind (Some number) flights = without number flights
+
+-- The step from what is stored to the outcome of a task, behind which these jobs are in flight, whose tasks stay. Of what isn't cited any more just what a held pin names is left, and
+-- their pages.
+pub record MayMerge (view : View) (rest : List Flying) (s : Stored) (task : PlainTask) (t : Stored) (made : Installation) : Type 0 where
+  pub installed : IsInstalledWith (company_of rest) s task t
   pub left : List (Name × List ℕ)
-  pub step_is : IsStep s (beside_in view) t left made.headers.items made.step
+  pub step_is : IsStep s (beside_in view) t (left ++ loose_in rest) made.headers.items made.step
   pub left_is : made.left.items ≡ names_in left
-  pub drawn : AreDrawn made.step.manifest.next made.left.items
+  pub drawn : AreDrawn made.step.manifest.next (made.left.items ++ names_in (loose_in rest))
+  pub tasked : All (λ flying. IsTaskFor t flying.task) rest
   pub named : AreNamed view.pins.pins made.left.items
   pub gone : All (λ name. is_named view.pins.pins name ≡ false) made.step.gone.items
 
@@ -124,39 +132,39 @@ abbrev pub IsCrowded : Stored → Type 0
 IsCrowded s = 2 * s.manifest.config.ratio ≤ length (at 0 s.files)
 
 -- the jobs that are due were carried out where level 0 is crowded and no job is in flight, and none else
-abbrev pub IsUncrowded : Option Flying → Stored → List Outcome → Stored → Type 0
-IsUncrowded None s outcomes t = (IsCrowded s × AreOutcomes s outcomes t) ⊎ ((IsCrowded s → ⊥) × (outcomes ≡ []) × (t ≡ s))
-IsUncrowded (Some flying) s outcomes t = (outcomes ≡ []) × (t ≡ s)
+abbrev pub IsUncrowded : List Flying → Stored → List Outcome → Stored → Type 0
+IsUncrowded [] s outcomes t = (IsCrowded s × AreOutcomes s outcomes t) ⊎ ((IsCrowded s → ⊥) × (outcomes ≡ []) × (t ≡ s))
+IsUncrowded (flying ∷ more) s outcomes t = (outcomes ≡ []) × (t ≡ s)
 
 -- some of them were, and none where level 0 isn't crowded or a job is in flight
-abbrev pub IsMergedInPart : Option Flying → Stored → Stored → Type 0
-IsMergedInPart None s t = (t ≡ s) ⊎ (IsCrowded s × (outcomes : List Outcome) × AreSomeOutcomes s outcomes t)
-IsMergedInPart (Some flying) s t = t ≡ s
+abbrev pub IsMergedInPart : List Flying → Stored → Stored → Type 0
+IsMergedInPart [] s t = (t ≡ s) ⊎ (IsCrowded s × (outcomes : List Outcome) × AreSomeOutcomes s outcomes t)
+IsMergedInPart (flying ∷ more) s t = t ≡ s
 
 -- Room was made for a record where there was none: the frozen segment was flushed, if there was one, the active one was frozen, which left a store whose parts agree, and then
 -- the jobs were carried out.
-pub record IsCleared (flight : Option Flying) (s : Stored) (outcomes : List Outcome) (t : Stored) : Type 0 where
+pub record IsCleared (flights : List Flying) (s : Stored) (outcomes : List Outcome) (t : Stored) : Type 0 where
   pub middle : Stored
   pub unfrozen : IsUnfrozen s middle
   pub cleared : Stored
   pub frozen : IsFrozen middle cleared
   pub coherent : IsCoherent cleared
-  pub merges : IsUncrowded flight cleared outcomes t
+  pub merges : IsUncrowded flights cleared outcomes t
 
 -- Where there is room nothing was done.
-abbrev pub IsRoomMadeBy : Option Flying → Stored → List Outcome → Stored → Type 0
-IsRoomMadeBy flight s outcomes t = (HasRoom s × (outcomes ≡ []) × (t ≡ s)) ⊎ ((HasRoom s → ⊥) × IsCleared flight s outcomes t)
+abbrev pub IsRoomMadeBy : List Flying → Stored → List Outcome → Stored → Type 0
+IsRoomMadeBy flights s outcomes t = (HasRoom s × (outcomes ≡ []) × (t ≡ s)) ⊎ ((HasRoom s → ⊥) × IsCleared flights s outcomes t)
 
 -- Of the steps that make room the first was done, which flushes the frozen segment, if there is one, and maybe the second, which freezes the active one and left a store whose
 -- parts agree, and behind that some of the jobs.
-pub record IsClearedInPart (flight : Option Flying) (s t : Stored) : Type 0 where
+pub record IsClearedInPart (flights : List Flying) (s t : Stored) : Type 0 where
   pub middle : Stored
   pub unfrozen : IsUnfrozen s middle
-  pub rest : (t ≡ middle) ⊎ ((cleared : Stored) × IsFrozen middle cleared × IsCoherent cleared × IsMergedInPart flight cleared t)
+  pub rest : (t ≡ middle) ⊎ ((cleared : Stored) × IsFrozen middle cleared × IsCoherent cleared × IsMergedInPart flights cleared t)
 
 -- Where there is room nothing was done, and where there is none some of the steps that make it.
-abbrev pub IsRoomBegun : Option Flying → Stored → Stored → Type 0
-IsRoomBegun flight s t = (t ≡ s) ⊎ ((HasRoom s → ⊥) × IsClearedInPart flight s t)
+abbrev pub IsRoomBegun : List Flying → Stored → Stored → Type 0
+IsRoomBegun flights s t = (t ≡ s) ⊎ ((HasRoom s → ⊥) × IsClearedInPart flights s t)
 
 -- The pages that are retired behind jobs, from those that were before. A job leaves none but those that a held pin names, and without one they are as they were.
 abbrev pub AreRetiredBehind : List Outcome → List Pin → List Name → List Name → Type 0

@@ -1,5 +1,5 @@
 -- Which history a store stands for now.
-use Rattle.std.specs.Prelude.{◌≡◌, ◌≤◌, ℕ, ◌∷◌, [], ◌++◌, length, All, Option, Some, None, IfSome, if◌then◌else◌}
+use Rattle.std.specs.Prelude.{◌≡◌, ◌≤◌, ℕ, ◌∷◌, [], ◌++◌, length, All, Option, Some, None, if◌then◌else◌}
 use Rattle.lethe_base.specs.History.{History, Change, IsLegal, AreDone}
 use Rattle.lethe_base.specs.declared.call.Did.TheVariants.{Failed}
 use Rattle.lethe_base.specs.declared.config.Fields.{Fields}
@@ -54,6 +54,6 @@ pub record StandsNow (config : Fields) (h : History) (view : View) : Type 0 wher
   pub config_is : stored.manifest.config ≡ config
   pub stands : IsFor (without_failed h) stored
   pub held : IsOpenOrStopped config view h stored view.state.stopped
-  pub counted : IfSome view.flight (λ flying. IsCounted flying.task)
+  pub counted : All (λ flying. IsCounted flying.task) view.flights
   pub recorded : AreLaterRecorded stored
   pub timely : view.state.stopped ≡ None → AreTimely config.threshold h view.pins.pins view.retired view.disk.directory

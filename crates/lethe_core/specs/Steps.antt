@@ -19,7 +19,7 @@ use Rattle.lethe_core.specs.View.{View}
 pub record IsBeside (old new : View) : Type 0 where
   pub levels : new.levels ≡ old.levels
   pub retired : new.retired ≡ old.retired
-  pub flight : new.flight ≡ old.flight
+  pub flights : new.flights ≡ old.flights
   pub begun : new.begun ≡ old.begun
   pub rounds : new.rounds ≡ old.rounds
   pub pins : new.pins ≡ old.pins

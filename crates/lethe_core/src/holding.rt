@@ -8,7 +8,7 @@ ghost use Rattle.lethe_core.specs.Merges.{HasNoMergeBy, IsBegunBy, IsPickedIn, I
 ghost use Rattle.lethe_core.specs.Running.{Holds};
 ghost use Rattle.lethe_core.specs.View.{view_of};
 
-use crate::Flight;
+use crate::Flights;
 use crate::choosing::Choice;
 use lethe_base::{Name, NoMemory, Pending};
 use lethe_disk::Disk;
@@ -27,7 +27,7 @@ pub struct Core<D: Disk> {
     pub version: Version<D>,
     /// The pages that no manifest cites any more, which were left for pins. Those that no pin names any more go with the next merge, sweep or tick.
     pub retired: Vec<Name>,
-    pub flight: Option<Flight<D>>,
+    pub flights: Flights<D>,
     pub pins: Pins,
     /// How many jobs were begun since the store was opened, and how many rounds have ended.
     pub begun: Begun,

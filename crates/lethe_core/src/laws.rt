@@ -27,8 +27,8 @@ pub fn jobs_are_bounded()
 /// So what a change carries out where it makes room is no more than what there was to do once both buffers were moved on, in a store that stands for a history; also where it
 /// is refused in between.
 pub fn room_is_bounded()
-    ensures made { (h : History) (flight : Option Flying) (s t : Stored) (outcomes : List Outcome) → IsFor h s → IsCoherent s → (HasRoom s → ⊥)
-        → (room : IsCleared flight s outcomes t) → IsFor h room.cleared × (length outcomes + jobs_left t ≤ jobs_left room.cleared) }
+    ensures made { (h : History) (flights : List Flying) (s t : Stored) (outcomes : List Outcome) → IsFor h s → IsCoherent s → (HasRoom s → ⊥)
+        → (room : IsCleared flights s outcomes t) → IsFor h room.cleared × (length outcomes + jobs_left t ≤ jobs_left room.cleared) }
     ensures in_part { (h : History) (s middle cleared t : Stored) (outcomes : List Outcome) → IsFor h s → IsCoherent s → (HasRoom s → ⊥) → IsUnfrozen s middle → IsFrozen middle cleared
         → IsCoherent cleared → AreSomeOutcomes cleared outcomes t → IsFor h cleared × (length outcomes + jobs_left t ≤ jobs_left cleared) }
 {}

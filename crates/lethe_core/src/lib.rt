@@ -4,6 +4,7 @@
 mod choosing;
 mod descent;
 mod flight;
+mod flights;
 mod holding;
 mod laws;
 mod merging;
@@ -13,6 +14,7 @@ mod stepping;
 mod working;
 
 pub use flight::Flight;
+pub use flights::Flights;
 pub use holding::Core;
 pub use laws::{
     any_job_goes_on, erases_are_counted, job_goes_on, jobs_are_bounded, jobs_are_few,

@@ -1,5 +1,5 @@
 //! Merges and sweeps that a store carries out itself, and the step of one.
-ghost use Rattle.std.specs.Prelude.{◌≡◌, ◌≤◌, ◌+◌, ◌⊎◌, ◌↔◌, [], true, false, IsTrue, List, Ok, None, All, IfOk, IfErr, OnErr, OnOk, ◌<◌, IsErrOf, length};
+ghost use Rattle.std.specs.Prelude.{◌≡◌, ◌≤◌, ◌+◌, ◌⊎◌, ◌↔◌, [], true, false, IsTrue, List, Ok, All, IfOk, IfErr, OnErr, OnOk, ◌<◌, IsErrOf, length};
 ghost use Rattle.std.specs.Result.{result_err};
 ghost use Rattle.lethe_base.specs.History.{History};
 ghost use Rattle.lethe_base.specs.declared.config.Fields.{Fields};
@@ -15,7 +15,7 @@ ghost use Rattle.lethe_job.specs.Works.{PlainTask, reads_of};
 ghost use Rattle.lethe_core.specs.Descent.{HasCountedErases, jobs_at_most, jobs_left};
 ghost use Rattle.lethe_core.specs.Keeps.{Keeps, MayStep};
 ghost use Rattle.lethe_core.specs.Merges.{AreOutcomesBy, AreSomeOutcomesBy, HasNoMergeBy, IsOutcomeBy, IsShortToMergeBy, chosen_by, due_choice};
-ghost use Rattle.lethe_core.specs.Merges.{IsCrowded, IsMergedInPart, IsShortToMerge, IsUncrowded, AreRetiredBehind, MayMerge, Outcome, pages_of};
+ghost use Rattle.lethe_core.specs.Merges.{IsCrowded, IsMergedInPart, IsShortToMerge, IsUncrowded, AreRetiredBehind, MayMerge, Outcome, flights_behind, pages_of};
 ghost use Rattle.lethe_core.specs.Pinned.{AreNamed};
 ghost use Rattle.lethe_core.specs.Reasons.{HasDamagedPage, HasReason, IsUnreadable, told_since};
 ghost use Rattle.lethe_core.specs.Running.{Holds, IsSound};
@@ -28,6 +28,7 @@ use crate::choosing::Choice;
 use crate::descent::{are_counted, steps_down, unswept_pairs};
 use lethe_base::{NoMemory, Refused};
 use lethe_disk::{Disk, ReadRefused};
+use lethe_follows::Company;
 use lethe_install::{Installation, installing};
 use lethe_job::cited_files;
 use std::alloc::Global;
@@ -45,21 +46,21 @@ impl<D: Disk> Core<D> {
     ) -> Result<(), Refused>
         requires may { MayStep D.tells (view_of self.old) before }
         ensures keeps { Keeps D.tells (view_of self.old) (view_of self.new) (result_err result) }
-        ensures partly { IfErr result (IsDoneInPart D.tells (IsMergedInPart (view_of self.old).flight) (view_of self.old) (view_of self.new)) }
+        ensures partly { IfErr result (IsDoneInPart D.tells (IsMergedInPart (view_of self.old).flights) (view_of self.old) (view_of self.new)) }
         ensures done { D.tells → (s : Stored) → Holds (view_of self.old) s
-            → OnOk result ((t : Stored) × (outcomes : List Outcome) × IsUncrowded (view_of self.old).flight s outcomes t × Holds (view_of self.new) t
+            → OnOk result ((t : Stored) × (outcomes : List Outcome) × IsUncrowded (view_of self.old).flights s outcomes t × Holds (view_of self.new) t
             × (D.fetches port.new ≡ D.fetches port.old + pages_of outcomes) × AreRetiredBehind outcomes (view_of self.old).pins.pins (view_of self.old).retired (view_of self.new).retired) }
         ensures steady { OnOk result (IsSteady self.old.state self.new.state) }
         ensures why { IfErr result (λ why. HasReason (IsShortToMerge D.tells (view_of self.new)) self.old.state before (D.faults self.new.disk) why
             ⊎ IsUnreadable D.tells D.ports_fail (D.port_faults port.old) (D.port_faults port.new) why) }
-        ensures flight { self.new.flight ≡ self.old.flight }
+        ensures flights { self.new.flights ≡ self.old.flights }
         ensures begun { self.new.begun ≡ self.old.begun }
         ensures port_faults { D.port_faults port.old ≤ D.port_faults port.new }
         // On any disk: where a page is told as damaged, a fetch was made in this call, and it is one of a file of the version behind it.
         ensures damaged { (name : Name) → IsErrOf result (refused.Damaged name) → HasDamagedPage self.new name × (D.fetches port.old < D.fetches port.new) }
         ensures fetches { D.fetches port.old ≤ D.fetches port.new }
     {
-        if self.flight.is_some() || !self.is_crowded() {
+        if !self.flights.is_empty() || !self.is_crowded() {
             return Ok(());
         }
         self.merge_all(alloc, port, before, Choice::Room)
@@ -74,7 +75,7 @@ impl<D: Disk> Core<D> {
         to: u64,
     ) -> Result<(), Refused>
         requires may { MayStep D.tells (view_of self.old) before }
-        requires free { self.old.flight ≡ None }
+        requires free { self.old.flights ≡ [] }
         ensures keeps { Keeps D.tells (view_of self.old) (view_of self.new) (result_err result) }
         ensures partly { IfErr result (IsDoneInPart D.tells (λ s t. (outcomes : List Outcome) × AreSomeOutcomesBy (due_choice to) s outcomes t) (view_of self.old) (view_of self.new)) }
         ensures done { D.tells → (s : Stored) → Holds (view_of self.old) s
@@ -83,7 +84,7 @@ impl<D: Disk> Core<D> {
         ensures steady { OnOk result (IsSteady self.old.state self.new.state) }
         ensures why { IfErr result (λ why. HasReason (IsShortToMergeBy (due_choice to) D.tells (view_of self.new)) self.old.state before (D.faults self.new.disk) why
             ⊎ IsUnreadable D.tells D.ports_fail (D.port_faults port.old) (D.port_faults port.new) why) }
-        ensures free { self.new.flight ≡ None }
+        ensures free { self.new.flights ≡ [] }
         ensures begun { self.new.begun ≡ self.old.begun }
         ensures port_faults { D.port_faults port.old ≤ D.port_faults port.new }
         // On any disk: where a page is told as damaged, a fetch was made in this call, and it is one of a file of the version behind it.
@@ -111,7 +112,7 @@ impl<D: Disk> Core<D> {
         choice: Choice,
     ) -> Result<(), Refused>
         requires may { MayStep D.tells (view_of self.old) before }
-        requires free { self.old.flight ≡ None }
+        requires free { self.old.flights ≡ [] }
         ensures keeps { Keeps D.tells (view_of self.old) (view_of self.new) (result_err result) }
         ensures partly { IfErr result (IsDoneInPart D.tells (λ s t. (outcomes : List Outcome) × AreSomeOutcomesBy (chosen_by choice) s outcomes t) (view_of self.old) (view_of self.new)) }
         ensures done { D.tells → (s : Stored) → Holds (view_of self.old) s
@@ -120,7 +121,7 @@ impl<D: Disk> Core<D> {
         ensures steady { OnOk result (IsSteady self.old.state self.new.state) }
         ensures why { IfErr result (λ why. HasReason (IsShortToMergeBy (chosen_by choice) D.tells (view_of self.new)) self.old.state before (D.faults self.new.disk) why
             ⊎ IsUnreadable D.tells D.ports_fail (D.port_faults port.old) (D.port_faults port.new) why) }
-        ensures free { self.new.flight ≡ None }
+        ensures free { self.new.flights ≡ [] }
         ensures begun { self.new.begun ≡ self.old.begun }
         ensures port_faults { D.port_faults port.old ≤ D.port_faults port.new }
         // On any disk: where a page is told as damaged, a fetch was made in this call, and it is one of a file of the version behind it.
@@ -173,7 +174,7 @@ impl<D: Disk> Core<D> {
         choice: Choice,
     ) -> Result<bool, Refused>
         requires may { MayStep D.tells (view_of self.old) before }
-        requires free { self.old.flight ≡ None }
+        requires free { self.old.flights ≡ [] }
         ensures keeps { Keeps D.tells (view_of self.old) (view_of self.new) (result_err result) }
         ensures undone { IfErr result (IsUndone D.tells (view_of self.old) (view_of self.new)) }
         ensures ended { result ≡ Ok false → (self.new ≡ self.old) × (D.fetches port.new ≡ D.fetches port.old) × ((s : Stored) → Holds (view_of self.old) s → HasNoMergeBy (chosen_by choice) s) }
@@ -184,7 +185,7 @@ impl<D: Disk> Core<D> {
         ensures retired { result ≡ Ok true → AreNamed (view_of self.new).pins.pins (view_of self.new).retired }
         ensures why { IfErr result (λ why. HasReason (IsShortToMergeBy (chosen_by choice) D.tells (view_of self.new)) self.old.state before (D.faults self.new.disk) why
             ⊎ IsUnreadable D.tells D.ports_fail (D.port_faults port.old) (D.port_faults port.new) why) }
-        ensures free { self.new.flight ≡ None }
+        ensures free { self.new.flights ≡ [] }
         ensures begun { self.new.begun ≡ self.old.begun }
         ensures port_faults { D.port_faults port.old ≤ D.port_faults port.new }
         // On any disk: where a page is told as damaged, a fetch was made in this call, and it is one of a file of the version behind it.
@@ -202,6 +203,7 @@ impl<D: Disk> Core<D> {
         };
         let made = installing(
             alloc,
+            Company::Last,
             &self.state,
             &self.version,
             &task,
@@ -210,31 +212,32 @@ impl<D: Disk> Core<D> {
             &self.retired,
             &self.pins,
         )?;
-        self.merge_now(alloc, before, made)?;
+        self.merge_now(alloc, before, None, made)?;
         Ok(true)
     }
 
-    /// Carries out the step of a merge or a sweep. Behind it no job is in flight: its pages are cited, or there was none.
+    /// Carries out the step of a merge or a sweep, and lets the job of a number go that it ends, if it ends one: its pages are cited then. The others stay in flight.
     pub(crate) fn merge_now(
         &mut self,
         alloc: Global,
         before: u64,
+        ends: Option<u64>,
         made: Installation,
     ) -> Result<(), Refused>
         requires may { MayStep D.tells (view_of self.old) before }
         requires headers { All (λ new. header.HasSpelling new.header) made.headers.items }
         requires from { IsStepFrom (segments_for self.old.state.frozen) self.old.state made.headers.items made.step }
-        requires merges { D.tells → (s : Stored) → Holds (view_of self.old) s → (task : PlainTask) × (t : Stored) × MayMerge (view_of self.old) s task t made
+        requires merges { D.tells → (s : Stored) → Holds (view_of self.old) s → (task : PlainTask) × (t : Stored) × MayMerge (view_of self.old) (flights_behind ends self.old.flights) s task t made
             × ((config : Fields) (h : History) → StandsNow config h (view_of self.old) → IsCounted task) }
         requires named { AreNamed (view_of self.old).pins.pins made.left.items }
         ensures keeps { Keeps D.tells (view_of self.old) (view_of self.new) (result_err result) }
         ensures undone { IfErr result (IsUndone D.tells (view_of self.old) (view_of self.new)) }
-        ensures done { D.tells → (s : Stored) (task : PlainTask) (t : Stored) → Holds (view_of self.old) s → MayMerge (view_of self.old) s task t made
+        ensures done { D.tells → (s : Stored) (task : PlainTask) (t : Stored) → Holds (view_of self.old) s → MayMerge (view_of self.old) (flights_behind ends self.old.flights) s task t made
             → OnOk result (Holds (view_of self.new) t) }
         ensures steady { OnOk result (IsSteady self.old.state self.new.state) }
-        ensures free { OnOk result (self.new.flight ≡ None) }
+        ensures ended { OnOk result (self.new.flights ≡ flights_behind ends self.old.flights) }
         ensures retired { OnOk result (self.new.retired ≡ made.left) }
-        ensures kept { IfErr result (λ why. (self.new.flight ≡ self.old.flight) × (self.new.retired ≡ self.old.retired)) }
+        ensures kept { IfErr result (λ why. (self.new.flights ≡ self.old.flights) × (self.new.retired ≡ self.old.retired)) }
         ensures begun { self.new.begun ≡ self.old.begun }
         ensures drawn { OnErr result (self.new.state.next ≡ self.old.state.next) }
         ensures why { IfErr result (HasReason ⊥ self.old.state before (D.faults self.new.disk)) }
@@ -247,9 +250,12 @@ impl<D: Disk> Core<D> {
             left,
         } = made;
         self.carry_out(alloc, before, headers, &step)?;
-        self.state.install(alloc, step);
         self.retired = left;
-        self.flight = None;
+        if let Some(number) = ends {
+            self.flights.end(number);
+        }
+        let company = self.flights.company();
+        self.state.install(alloc, company, step);
         Ok(())
     }
 }

@@ -55,7 +55,7 @@ impl<D: Disk> Core<D> {
         ensures entered { OnOk result (HasEntered next self.old.state self.new.state) }
         ensures version { self.new.version ≡ self.old.version }
         ensures retired { self.new.retired ≡ self.old.retired }
-        ensures flight { self.new.flight ≡ self.old.flight }
+        ensures flights { self.new.flights ≡ self.old.flights }
         ensures begun { self.new.begun ≡ self.old.begun }
         ensures pins { self.new.pins ≡ self.old.pins }
         ensures pinned { D.tells → AreKept (view_of self.old).pins.pins (D.seen self.old.disk).directory (D.seen self.new.disk).directory }

@@ -45,15 +45,15 @@ impl<D: Disk> Core<D> {
     ) -> Result<(), Refused>
         requires { MayStep D.tells (view_of self.old) before }
         ensures keeps { Keeps D.tells (view_of self.old) (view_of self.new) (result_err result) }
-        ensures partly { IfErr result (IsDoneInPart D.tells (IsRoomBegun (view_of self.old).flight) (view_of self.old) (view_of self.new)) }
+        ensures partly { IfErr result (IsDoneInPart D.tells (IsRoomBegun (view_of self.old).flights) (view_of self.old) (view_of self.new)) }
         ensures done { D.tells → (s : Stored) → Holds (view_of self.old) s
-            → OnOk result ((t : Stored) × (outcomes : List Outcome) × IsRoomMadeBy (view_of self.old).flight s outcomes t × Holds (view_of self.new) t
+            → OnOk result ((t : Stored) × (outcomes : List Outcome) × IsRoomMadeBy (view_of self.old).flights s outcomes t × Holds (view_of self.new) t
             × (D.fetches port.new ≡ D.fetches port.old + pages_of outcomes) × AreRetiredBehind outcomes (view_of self.old).pins.pins (view_of self.old).retired (view_of self.new).retired) }
         ensures room { self.old.state.records < self.old.state.manifest.config.buffer → IsOk result × (self.new ≡ self.old) × (port.new ≡ port.old) }
         ensures ready { OnOk result (IsReady self.old.state self.new.state) }
         ensures why { IfErr result (λ why. HasReason (IsShortOfRoom D.tells self.old.state (view_of self.new)) self.old.state before (D.faults self.new.disk) why
             ⊎ IsUnreadable D.tells D.ports_fail (D.port_faults port.old) (D.port_faults port.new) why) }
-        ensures flight { self.new.flight ≡ self.old.flight }
+        ensures flights { self.new.flights ≡ self.old.flights }
         ensures begun { self.new.begun ≡ self.old.begun }
         ensures port_faults { D.port_faults port.old ≤ D.port_faults port.new }
         // On any disk: where a page is told as damaged, a fetch was made in this call, and it is one of a file of the version behind it.
@@ -80,7 +80,7 @@ impl<D: Disk> Core<D> {
         ensures soon { D.tells → (D.seen self.new.disk).moment ≤ (D.seen self.old.disk).moment + 3 * most_numbers (frozen_len self.old.state.frozen) + 9 }
         ensures why { IfErr result (HasReason (IsShort self.old.state) self.old.state before (D.faults self.new.disk)) }
         ensures retired { self.new.retired ≡ self.old.retired }
-        ensures flight { self.new.flight ≡ self.old.flight }
+        ensures flights { self.new.flights ≡ self.old.flights }
         ensures begun { self.new.begun ≡ self.old.begun }
     {
         if self.state.frozen().is_none() {
@@ -102,7 +102,7 @@ impl<D: Disk> Core<D> {
         ensures soon { D.tells → (D.seen self.new.disk).moment ≤ (D.seen self.old.disk).moment + 3 * most_numbers (frozen_len self.old.state.frozen) + 9 }
         ensures why { IfErr result (HasReason (IsShortToFlush self.old.state) self.old.state before (D.faults self.new.disk)) }
         ensures retired { self.new.retired ≡ self.old.retired }
-        ensures flight { self.new.flight ≡ self.old.flight }
+        ensures flights { self.new.flights ≡ self.old.flights }
         ensures begun { self.new.begun ≡ self.old.begun }
     {
         let (headers, step) = self.state.flushing(alloc, &self.version)?;
@@ -124,7 +124,7 @@ impl<D: Disk> Core<D> {
         ensures soon { D.tells → (D.seen self.new.disk).moment ≤ (D.seen self.old.disk).moment + 10 }
         ensures why { IfErr result (HasReason (IsShortToFreeze self.old.state) self.old.state before (D.faults self.new.disk)) }
         ensures retired { self.new.retired ≡ self.old.retired }
-        ensures flight { self.new.flight ≡ self.old.flight }
+        ensures flights { self.new.flights ≡ self.old.flights }
         ensures begun { self.new.begun ≡ self.old.begun }
     {
         let step = self.state.freezing(alloc)?;
@@ -173,7 +173,7 @@ impl<D: Disk> Core<D> {
         ensures levels { length (parts_by_level self.new.version) ≡ length (parts_by_level self.old.version) }
         ensures refused { IfErr result (IsHindered D.tells (view_of self.old) (view_of self.new) before) }
         ensures retired { self.new.retired ≡ self.old.retired }
-        ensures flight { self.new.flight ≡ self.old.flight }
+        ensures flights { self.new.flights ≡ self.old.flights }
         ensures begun { self.new.begun ≡ self.old.begun }
         ensures pins { self.new.pins ≡ self.old.pins }
         ensures calls { D.tells → OnOk result ((D.seen self.old.disk).moment + length step.now.objects.items + 4 ≤ (D.seen self.new.disk).moment) }
@@ -230,7 +230,7 @@ impl<D: Disk> Core<D> {
         ensures levels { length (parts_by_level self.new.version) ≡ length (parts_by_level self.old.version) }
         ensures refused { IfErr result (IsHindered D.tells (view_of self.old) (view_of self.new) before) }
         ensures retired { self.new.retired ≡ self.old.retired }
-        ensures flight { self.new.flight ≡ self.old.flight }
+        ensures flights { self.new.flights ≡ self.old.flights }
         ensures begun { self.new.begun ≡ self.old.begun }
         ensures pins { self.new.pins ≡ self.old.pins }
         ensures calls { D.tells → OnOk result ((D.seen self.old.disk).moment + length step.now.objects.items + 4 ≤ (D.seen self.new.disk).moment) }

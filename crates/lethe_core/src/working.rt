@@ -1,19 +1,21 @@
 //! The steps of a job: begun, written page by page, installed or given up.
-ghost use Rattle.std.specs.Prelude.{◌≡◌, ◌≤◌, ◌+◌, ◌-◌, ◌++◌, [], Ok, Some, None, filter, length, not, IfOk, IfErr, IfSome, IsErrOf, IsSome, OnErr, OnOk};
+ghost use Rattle.std.specs.Prelude.{◌≡◌, ◌≤◌, ◌+◌, ◌-◌, ◌++◌, [], Ok, Some, None, filter, length, map, not, IfOk, IfErr, IfSome, IsErrOf, IsSome, OnErr, OnOk};
 ghost use Rattle.std.specs.Result.{result_err};
 ghost use Rattle.std.specs.FinMap.{insert};
 ghost use Rattle.lethe_base.specs.History.{History};
 ghost use Rattle.lethe_base.specs.Limits.{max_place};
 ghost use Rattle.lethe_base.specs.declared.config.Fields.{Fields};
 ghost use Rattle.lethe_base.specs.declared.refused.Refused.TheVariants as refused;
-ghost use Rattle.lethe_clean.specs.Copied.{IsCopied};
+ghost use Rattle.lethe_clean.specs.Copied.{IsCopiedOf};
 ghost use Rattle.lethe_disk.specs.Disk.{IsIdle};
 ghost use Rattle.lethe_file.specs.Agreement.{page_name};
+ghost use Rattle.lethe_stored.specs.Files.{file_of};
 ghost use Rattle.lethe_stored.specs.Stored.{Stored};
-ghost use Rattle.lethe_install.specs.Outcomes.{AreFirst, IsInstalled};
+ghost use Rattle.lethe_install.specs.Outcomes.{AreFirst, IsInstalledWith};
 ghost use Rattle.lethe_job.specs.MadeOf.{numbers_in};
-ghost use Rattle.lethe_job.specs.Works.{IsBegunIn, plain_task, plan_of};
-ghost use Rattle.lethe_core.specs.Jobs.{AreOutputsOf, IsAtWork, with_begun, with_page};
+ghost use Rattle.lethe_job.specs.Works.{IsBegunIn, inputs_in, plain_task, plan_of};
+ghost use Rattle.lethe_core.specs.Flights.{company_of, flying_by, loose_in, with_page_of, without};
+ghost use Rattle.lethe_core.specs.Jobs.{AreOutputsOf, IsAtWork, with_begun};
 ghost use Rattle.lethe_core.specs.Keeps.{Keeps, MayStep};
 ghost use Rattle.lethe_core.specs.Merges.{HasNoMerge, IsNextPlan};
 ghost use Rattle.lethe_core.specs.Pinned.{AreNamed};
@@ -21,27 +23,26 @@ ghost use Rattle.lethe_core.specs.Reasons.{HasReason};
 ghost use Rattle.lethe_core.specs.Running.{Holds, IsSound};
 ghost use Rattle.lethe_core.specs.StandsNow.{StandsNow};
 ghost use Rattle.lethe_core.specs.Steps.{IsDoneInPart, IsSteady, IsUndone};
-ghost use Rattle.lethe_core.specs.View.{face_of, loose_in, view_of};
+ghost use Rattle.lethe_core.specs.View.{face_of, view_of};
 ghost use Rattle.lethe_pins.specs.Held.{is_named};
 ghost use Rattle.lethe_advance.specs.Settled.{names_in};
 
+use crate::Core;
 use crate::choosing::Choice;
-use crate::{Core, Flight};
 use lethe_base::{MAX_PLACE, Name, NoMemory, Refused};
 use lethe_disk::{Disk, DiskRefused};
 use lethe_install::installing;
 use lethe_job::{Job, Made};
-use lethe_loose::{Written, remove_named, remove_pages, write_page};
+use lethe_loose::{remove_named, remove_pages};
 use std::alloc::Global;
-use std::snapshot::Snapshot;
 use std::sync::Arc;
 
 impl<D: Disk> Core<D> {
-    /// The job of the merge or the sweep that is due, where none is in flight: now it is. None where none is due. It reads no page and makes no device call.
+    /// The job of the merge or the sweep that is due, where none is in flight: now it is, with its claim. None where none is due. It reads no page and makes no device call.
     pub fn begin_now(&mut self, alloc: Global) -> Result<Option<Job<D>>, NoMemory>
         requires sound { IsSound D.tells (view_of self.old) }
         requires runs { self.old.state.stopped ≡ None }
-        requires free { self.old.flight ≡ None }
+        requires free { self.old.flights ≡ [] }
         ensures sound { IsSound D.tells (view_of self.new) }
         ensures stands { D.tells → (config : Fields) (h : History) → StandsNow config h (view_of self.old) → StandsNow config h (view_of self.new) }
         ensures held { D.tells → (s : Stored) → Holds (view_of self.old) s → Holds (view_of self.new) s }
@@ -67,29 +68,29 @@ impl<D: Disk> Core<D> {
         let Some(task) = self.next_task(alloc, Choice::Room)? else {
             return Ok(None);
         };
+        let number = self.begun.jobs;
+        // No store begins so many jobs: one that would counts as one for which there is no memory.
+        let begun = number.checked_add(1).ok_or(NoMemory)?;
+        let claim = task.claim()?;
         let port = self.disk.port(alloc)?;
         let task = Arc::new(alloc, task)?;
         let shared = Arc::clone(&task)?;
-        let number = Snapshot::of(&self.begun.jobs);
-        self.flight = Some(Flight {
-            number: Snapshot::of(&self.begun.jobs),
-            task: shared,
-            written: Written::new(alloc),
-        });
-        self.begun.jobs = self.begun.jobs.more();
+        self.flights.begin(alloc, number, shared, claim)?;
+        self.begun.jobs = begun;
         Ok(Some(Job::begun(number, self.begun.rounds, task, port)))
     }
 
-    /// Writes the next page of the job in flight, under the next number, and syncs. The page has no put but those of stored files.
-    pub fn write_now(&mut self, before: u64, bytes: &[u8]) -> Result<(), Refused>
+    /// Writes the next page of the job of the number, under the next number of an object, and syncs. The page has no put but those of the job's inputs. The other jobs stay as they are.
+    pub fn write_now(&mut self, before: u64, number: u64, bytes: &[u8]) -> Result<(), Refused>
         requires may { MayStep D.tells (view_of self.old) before }
-        requires flies { IsSome self.old.flight }
-        requires copied { D.tells → (s : Stored) → Holds (view_of self.old) s → IsCopied s (page_name self.old.state.next, bytes.now) }
+        requires flies { IsSome (flying_by number self.old.flights) }
+        requires copied { D.tells → (s : Stored) → Holds (view_of self.old) s
+            → IfSome (flying_by number self.old.flights) (λ flying. IsCopiedOf (map file_of (inputs_in flying.task)) (page_name self.old.state.next, bytes.now)) }
         ensures keeps { Keeps D.tells (view_of self.old) (view_of self.new) (result_err result) }
         ensures undone { IfErr result (IsUndone D.tells (view_of self.old) (view_of self.new)) }
         ensures held { D.tells → (s : Stored) → Holds (view_of self.old) s → OnOk result (Holds (view_of self.new) s) }
-        ensures written { IfSome (view_of self.old).flight (λ flying. OnOk result ((view_of self.new).flight ≡ Some (with_page flying (page_name self.old.state.next, bytes.now)))) }
-        ensures kept { IfErr result (λ why. (view_of self.new).flight ≡ (view_of self.old).flight) }
+        ensures written { OnOk result (self.new.flights ≡ with_page_of number (page_name self.old.state.next, bytes.now) self.old.flights) }
+        ensures kept { OnErr result (self.new.flights ≡ self.old.flights) }
         ensures retired { self.new.retired ≡ self.old.retired }
         ensures begun { self.new.begun ≡ self.old.begun }
         ensures drawn { OnErr result (self.new.state.next ≡ self.old.state.next) }
@@ -100,15 +101,10 @@ impl<D: Disk> Core<D> {
         ensures page { D.tells → OnOk result ((D.seen self.new.disk).directory ≡ insert (D.seen self.old.disk).directory (page_name self.old.state.next) bytes.now) }
         ensures calls { D.tells → OnOk result ((D.seen self.new.disk).moment ≡ (D.seen self.old.disk).moment + 2) }
     {
-        let Some(number) = self.state.free_number() else {
+        let Some(no) = self.state.free_number() else {
             return Err(Refused::Exhausted { last: MAX_PLACE });
         };
-        let Some(mut flight) = self.flight.take() else {
-            unreachable!()
-        };
-        let placed = write_page(&mut self.disk, &mut flight.written, number, bytes);
-        self.flight = Some(flight);
-        match placed {
+        match self.flights.write(&mut self.disk, number, no, bytes) {
             Ok(()) => {
                 self.state.draw();
                 Ok(())
@@ -125,28 +121,37 @@ impl<D: Disk> Core<D> {
         }
     }
 
-    /// Cites what the job in flight made in the place of what goes.
-    pub fn install_now(&mut self, alloc: Global, before: u64, made: Made) -> Result<(), Refused>
+    /// Cites what the job of the number made in the place of what goes. The other jobs stay in flight, and beside one no erase leaves the list.
+    pub fn install_now(
+        &mut self,
+        alloc: Global,
+        before: u64,
+        number: u64,
+        made: Made,
+    ) -> Result<(), Refused>
         requires may { MayStep D.tells (view_of self.old) before }
-        requires flies { IsSome self.old.flight }
-        requires outputs { IfSome (view_of self.old).flight (λ flying. AreOutputsOf D.tells flying made) }
+        requires flies { IsSome (flying_by number self.old.flights) }
+        requires outputs { IfSome (flying_by number self.old.flights) (λ flying. AreOutputsOf D.tells flying made) }
         ensures keeps { Keeps D.tells (view_of self.old) (view_of self.new) (result_err result) }
         ensures undone { IfErr result (IsUndone D.tells (view_of self.old) (view_of self.new)) }
         ensures done { D.tells → (s : Stored) → Holds (view_of self.old) s
-            → IfSome (view_of self.old).flight (λ flying. OnOk result ((t : Stored) × IsInstalled s flying.task t × Holds (view_of self.new) t × AreFirst (names_in flying.written) s t)) }
+            → IfSome (flying_by number self.old.flights) (λ flying. OnOk result ((t : Stored) × IsInstalledWith (company_of (without number self.old.flights)) s flying.task t × Holds (view_of self.new) t
+            × AreFirst (names_in flying.written) s t)) }
         ensures steady { OnOk result (IsSteady self.old.state self.new.state) }
-        ensures free { OnOk result ((self.new.flight ≡ None) × AreNamed (view_of self.new).pins.pins (view_of self.new).retired) }
-        ensures kept { IfErr result (λ why. (self.new.flight ≡ self.old.flight) × (self.new.retired ≡ self.old.retired)) }
+        ensures ended { OnOk result ((self.new.flights ≡ without number self.old.flights) × AreNamed (view_of self.new).pins.pins (view_of self.new).retired) }
+        ensures kept { IfErr result (λ why. (self.new.flights ≡ self.old.flights) × (self.new.retired ≡ self.old.retired)) }
         ensures begun { self.new.begun ≡ self.old.begun }
         ensures drawn { OnErr result (self.new.state.next ≡ self.old.state.next) }
-        ensures why { IfErr result (HasReason (IfSome (view_of self.old).flight (λ flying. max_place ≤ self.old.state.next + (numbers_in made - length flying.written)))
+        ensures why { IfErr result (HasReason (IfSome (flying_by number self.old.flights) (λ flying. max_place ≤ self.old.state.next + (numbers_in made - length flying.written)))
             self.old.state before (D.faults self.new.disk)) }
     {
-        let Some(flight) = &self.flight else {
+        let Some(flight) = self.flights.find(number) else {
             unreachable!()
         };
+        let company = self.flights.company_for(number);
         let made = installing(
             alloc,
+            company,
             &self.state,
             &self.version,
             &flight.task,
@@ -155,16 +160,16 @@ impl<D: Disk> Core<D> {
             &self.retired,
             &self.pins,
         )?;
-        self.merge_now(alloc, before, made)
+        self.merge_now(alloc, before, Some(number), made)
     }
 
-    /// Gives the job in flight up: its pages are removed. It takes no memory.
-    pub fn cancel_now(&mut self, before: u64) -> Result<(), Refused>
+    /// Gives the job of the number up: its pages are removed, and the other jobs stay in flight. Where none has the number nothing is done. It takes no memory.
+    pub fn cancel_now(&mut self, before: u64, number: u64) -> Result<(), Refused>
         requires may { MayStep D.tells (view_of self.old) before }
         ensures keeps { Keeps D.tells (view_of self.old) (view_of self.new) (result_err result) }
         ensures held { D.tells → (s : Stored) → Holds (view_of self.old) s → OnOk result (Holds (view_of self.new) s) }
         ensures undone { IfErr result (IsUndone D.tells (view_of self.old) (view_of self.new)) }
-        ensures free { self.new.flight ≡ None }
+        ensures ended { self.new.flights ≡ without number self.old.flights }
         ensures retired { self.new.retired ≡ self.old.retired }
         ensures begun { self.new.begun ≡ self.old.begun }
         ensures state { OnOk result (self.new.state ≡ self.old.state) }
@@ -172,10 +177,10 @@ impl<D: Disk> Core<D> {
         ensures why { IfErr result (HasReason ⊥ self.old.state before (D.faults self.new.disk)) }
         ensures no_memory { IsErrOf result refused.NoMemory → ⊥ }
     {
-        let Some(flight) = self.flight.take() else {
+        let Some(written) = self.flights.end(number) else {
             return Ok(());
         };
-        match remove_pages(&mut self.disk, flight.written) {
+        match remove_pages(&mut self.disk, written) {
             Ok(()) => Ok(()),
             Err(_) => {
                 let place = self.state.stop();
@@ -188,26 +193,49 @@ impl<D: Disk> Core<D> {
         }
     }
 
-    /// Gives the job in flight up, and removes its pages and the retired ones that no held pin names, in one clear; it makes no device call where there are none. Where there is no
-    /// memory for their names the job alone is given up.
+    /// Gives all jobs in flight up, one after another. It takes no memory.
+    fn cancel_all(&mut self, before: u64) -> Result<(), Refused>
+        requires may { MayStep D.tells (view_of self.old) before }
+        ensures keeps { Keeps D.tells (view_of self.old) (view_of self.new) (result_err result) }
+        ensures held { D.tells → (s : Stored) → Holds (view_of self.old) s → OnOk result (Holds (view_of self.new) s) }
+        ensures undone { IfErr result (IsUndone D.tells (view_of self.old) (view_of self.new)) }
+        ensures free { self.new.flights ≡ [] }
+        ensures retired { self.new.retired ≡ self.old.retired }
+        ensures begun { self.new.begun ≡ self.old.begun }
+        ensures state { OnOk result (self.new.state ≡ self.old.state) }
+        ensures version { self.new.version ≡ self.old.version }
+        ensures why { IfErr result (HasReason ⊥ self.old.state before (D.faults self.new.disk)) }
+        ensures no_memory { IsErrOf result refused.NoMemory → ⊥ }
+    {
+        while let Some(number) = self.flights.first() {
+            if let Err(why) = self.cancel_now(before, number) {
+                self.flights.clear();
+                return Err(why);
+            }
+        }
+        Ok(())
+    }
+
+    /// Gives all jobs in flight up, and removes their pages and the retired ones that no held pin names, in one clear; it makes no device call where there are none. Where there is no
+    /// memory for their names the jobs alone are given up.
     pub fn clear_now(&mut self, alloc: Global, before: u64) -> Result<(), Refused>
         requires may { MayStep D.tells (view_of self.old) before }
         ensures keeps { Keeps D.tells (view_of self.old) (view_of self.new) (result_err result) }
         ensures held { D.tells → (s : Stored) → Holds (view_of self.old) s → OnOk result (Holds (view_of self.new) s) }
         ensures partly { IfErr result (IsDoneInPart D.tells (λ s t. t ≡ s) (view_of self.old) (view_of self.new)) }
-        ensures free { self.new.flight ≡ None }
+        ensures free { self.new.flights ≡ [] }
         ensures retired { OnOk result ((view_of self.new).retired ≡ filter (is_named (view_of self.old).pins.pins) (view_of self.old).retired) }
         ensures begun { self.new.begun ≡ self.old.begun }
         ensures state { OnOk result (self.new.state ≡ self.old.state) }
         ensures version { self.new.version ≡ self.old.version }
         ensures why { IfErr result (HasReason ⊥ self.old.state before (D.faults self.new.disk)) }
-        ensures idle { IfSome (view_of self.old).flight (λ flying. flying.written ≡ []) → AreNamed (view_of self.old).pins.pins (view_of self.old).retired → OnOk result (self.new.disk ≡ self.old.disk) }
+        ensures idle { loose_in self.old.flights ≡ [] → AreNamed (view_of self.old).pins.pins (view_of self.old).retired → OnOk result (self.new.disk ≡ self.old.disk) }
     {
         let Ok(names) = self.unneeded(alloc) else {
-            self.cancel_now(before)?;
+            self.cancel_all(before)?;
             return Err(Refused::NoMemory);
         };
-        self.flight = None;
+        self.flights.clear();
         if names.is_empty() {
             return Ok(());
         }
@@ -228,14 +256,12 @@ impl<D: Disk> Core<D> {
         }
     }
 
-    /// The names of the retired pages that no held pin names, and of the pages of the job in flight.
+    /// The names of the retired pages that no held pin names, and of the pages of the jobs in flight.
     fn unneeded(&self, alloc: Global) -> Result<Vec<Name>, NoMemory>
-        ensures { IfOk result (λ names. names.items ≡ filter (λ name. not (is_named (view_of self.now).pins.pins name)) (view_of self.now).retired ++ names_in (loose_in (view_of self.now).flight)) }
+        ensures { IfOk result (λ names. names.items ≡ filter (λ name. not (is_named (view_of self.now).pins.pins name)) (view_of self.now).retired ++ names_in (loose_in self.now.flights)) }
     {
         let mut names = self.pins.retired_free(alloc, &self.retired)?;
-        if let Some(flight) = &self.flight {
-            names.extend_from_slice(flight.written.names())?;
-        }
+        self.flights.add_names(&mut names)?;
         Ok(names)
     }
 }

@@ -31,13 +31,13 @@ use Rattle.lethe_drive.proofs.Outputs.{told_outputs}
 use Rattle.lethe_drive.proofs.Reasons.{reason_on, unreadable_told}
 
 -- where there is room for a record none has to be made
-not_begun : (flight : Option Flying) (s t : Stored) → HasRoom s → IsRoomBegun flight s t → t ≡ s
+not_begun : (flight : List Flying) (s t : Stored) → HasRoom s → IsRoomBegun flight s t → t ≡ s
 not_begun flight s t room (inl same) = same
 not_begun flight s t room (inr begun) = absurd (begun.0 room)
 
 module _ (Tells PortsFail : Type 0) (told : Tells) (call : Call) (IsNext : Stored → List Header → Record → Type 0) (config : Fields) (opened : Opened) (h : History) (old new : View) (s : Stored)
-    (known : IsKnown config h old s) (fetches_before fetches_now faults_before faults_now begun : ℕ) (there : Option Going) (snapshots : List ℕ) (stands : StandsSince config opened h old) (flight : new.flight ≡ old.flight) (pins : new.pins ≡ old.pins)
-    (ready : SeesRoom old.state → IsReadyFor call old.state) (parts : (t : Stored) → IsBegun call old.flight s t → IsRoomBegun old.flight s t) where
+    (known : IsKnown config h old s) (fetches_before fetches_now faults_before faults_now begun : ℕ) (there : Option Going) (snapshots : List ℕ) (stands : StandsSince config opened h old) (flight : new.flights ≡ old.flights) (pins : new.pins ≡ old.pins)
+    (ready : SeesRoom old.state → IsReadyFor call old.state) (parts : (t : Stored) → IsBegun call old.flights s t → IsRoomBegun old.flights s t) where
   abbrev before : Moment
   before = moment_of old s fetches_before faults_before begun there snapshots
 
@@ -45,11 +45,11 @@ module _ (Tells PortsFail : Type 0) (told : Tells) (call : Call) (IsNext : Store
   later t = moment_of new t fetches_now faults_now begun there snapshots
 
   same_jobs : (t : Stored) → AreJobsSame before (later t)
-  same_jobs t = record { flight = flight; begun = refl; there = refl }
+  same_jobs t = record { flights = flight; begun = refl; there = refl }
 
   -- room was made, and the record was written behind the others
   abbrev pub Written : Type 0
-  Written = (t : Stored) × (outcomes : List Outcome) × (next : Record) × IsRoomMadeBy old.flight s outcomes t × IsNext t (headers_in new.levels) next × Holds new (appended t next)
+  Written = (t : Stored) × (outcomes : List Outcome) × (next : Record) × IsRoomMadeBy old.flights s outcomes t × IsNext t (headers_in new.levels) next × Holds new (appended t next)
       × (fetches_now ≡ fetches_before + pages_of outcomes) × AreRetiredBehind outcomes old.pins.pins old.retired new.retired
 
   -- the job for which numbers are short is one of what is stored
@@ -74,7 +74,7 @@ module _ (Tells PortsFail : Type 0) (told : Tells) (call : Call) (IsNext : Store
         old.state old.state old.faults new.faults refl refl why reason (λ last full runs short. (short.0, short_on t (is.held (still_runs last full runs)) short.1)))
     change_reason t is (inr reason) = inr (reason.0, reason.1, unreadable_told Tells PortsFail faults_before faults_now why told reason.2)
 
-    not_changed : IsRefused Tells (Makes call) old new why → (t : Stored) → IsKnown config (refused_to h 0 call why) new t → (failure_of why ≡ None → IsRoomBegun old.flight s t)
+    not_changed : IsRefused Tells (Makes call) old new why → (t : Stored) → IsKnown config (refused_to h 0 call why) new t → (failure_of why ≡ None → IsRoomBegun old.flights s t)
         → HasReasonOfChange Tells PortsFail old new faults_before faults_now why → IsUnchanged PortsFail call h before why (refused_to h 0 call why) (later t)
     not_changed refused t is comes reason = record {
       history = refl;
@@ -82,7 +82,7 @@ module _ (Tells PortsFail : Type 0) (told : Tells) (call : Call) (IsNext : Store
       untouched = λ room none.
           let undone = refused.0 (ready room) none in
           record {
-            stored = not_begun old.flight s t (room_in s old.state old.levels known.remembers room) (comes none);
+            stored = not_begun old.flights s t (room_in s old.state old.levels known.remembers room) (comes none);
             state = undone.state;
             levels = undone.levels;
             retired = undone.retired;
@@ -123,7 +123,7 @@ module _ (Tells PortsFail : Type 0) (told : Tells) (call : Call) (IsNext : Store
         },
       )
   changed (Err why) stood still refused next reason written stops last =
-      let comes = refused_known Tells config opened h old new s known call why stood still (IsRoomBegun old.flight s) (inl refl) (λ none holds. let part = refused.1 none told s holds in (part.0, parts part.0 part.1, part.2)) in (
+      let comes = refused_known Tells config opened h old new s known call why stood still (IsRoomBegun old.flights s) (inl refl) (λ none holds. let part = refused.1 none told s holds in (part.0, parts part.0 part.1, part.2)) in (
         comes.0,
         comes.1,
         record { answers = not_changed why stood refused comes.0 comes.1 comes.2 reason; stops = stops; last = last; jobs = same_jobs comes.0; pins = record { held = pins; snapshots = refl } },

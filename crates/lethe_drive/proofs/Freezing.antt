@@ -1,8 +1,7 @@
 -- Freezes and flushes, and the begin of a job.
-use Rattle.std.proofs.Common.{◌≡◌, ◌↔◌, ◌⊎◌, inl, inr, ℕ, ◌+◌, Bool, true, false, List, Option, Some, None, Result, Ok, Err, refl, sym, ap, ◌∙◌, subst}
-use Rattle.std.specs.Prelude.{IfErr, IfSome, IsSome, option_map}
+use Rattle.std.proofs.Common.{◌≡◌, ◌≢◌, ◌↔◌, ◌⊎◌, inl, inr, ℕ, ◌+◌, Bool, true, false, List, [], ◌∷◌, ◌++◌, Option, Some, None, Result, Ok, Err, refl, sym, ap, ◌∙◌, subst}
+use Rattle.std.specs.Prelude.{IfErr, IfSome, IsSome}
 use Rattle.std.proofs.lemmas.Option.{none-some}
-use Rattle.std.proofs.lemmas.List.{nil_from_length}
 use Rattle.std.specs.Result.{result_err}
 use Rattle.lethe_base.specs.History.{History}
 use Rattle.lethe_base.specs.Limits.{max_place}
@@ -24,6 +23,7 @@ use Rattle.lethe_core.specs.Merges.{HasNoMerge}
 use Rattle.lethe_core.specs.Reasons.{HasReason}
 use Rattle.lethe_core.specs.Running.{Holds}
 use Rattle.lethe_core.specs.Steps.{IsBeside, IsUndone}
+use Rattle.lethe_core.specs.Flights.{Flying}
 use Rattle.lethe_core.specs.View.{Face, View, face_of}
 use Rattle.lethe_core.proofs.Likes.{before_holds}
 use Rattle.lethe_core.proofs.Standing.{idle_back, running_back}
@@ -58,10 +58,10 @@ module _ (Tells : Type 0) (told : Tells) (config : Fields) (opened : Opened) (h 
     (Nothing : State → Type 0) (Does : Stored → Stored → Type 0) (Short : Type 0) (face : face_of new ≡ face_of old) (retired : new.retired ≡ old.retired) (pins : new.pins ≡ old.pins) where
   same_moment : new ≡ old → IsAllButPort (moment_of old s fetches faults begun there snapshots) (moment_of new s fetches faults begun there snapshots)
   same_moment same = subst (λ (view : View). IsAllButPort (moment_of old s fetches faults begun there snapshots) (moment_of view s fetches faults begun there snapshots)) (sym same)
-      (record { stored = refl; state = refl; levels = refl; retired = refl; pins = refl; flight = refl; directory = refl; calls = refl; faults = refl; begun = refl; there = refl; snapshots = refl })
+      (record { stored = refl; state = refl; levels = refl; retired = refl; pins = refl; flights = refl; directory = refl; calls = refl; faults = refl; begun = refl; there = refl; snapshots = refl })
 
-  flight : new.flight ≡ old.flight
-  flight = ap (λ (face : Face). face.flight) face
+  flight : new.flights ≡ old.flights
+  flight = ap (λ (face : Face). face.flights) face
 
   abbrev pub Worked : Result Bool Refused → Type 0
   Worked result = (t : Stored) × IsKnown config (behind h 0 (Serves Work) (result_err result)) new t
@@ -85,7 +85,7 @@ module _ (Tells : Type 0) (told : Tells) (config : Fields) (opened : Opened) (h 
           untouched = tt;
           stops = stopped;
           last = last;
-          jobs = record { flight = flight; begun = refl; there = refl };
+          jobs = record { flights = flight; begun = refl; there = refl };
           retired = retired;
           pins = record { held = pins; snapshots = refl };
           port = record { fetches = refl; port_faults = refl };
@@ -103,7 +103,7 @@ module _ (Tells : Type 0) (told : Tells) (config : Fields) (opened : Opened) (h 
       untouched = tt;
       stops = stopped;
       last = last;
-      jobs = record { flight = flight; begun = refl; there = refl };
+      jobs = record { flights = flight; begun = refl; there = refl };
       retired = retired;
       pins = record { held = pins; snapshots = refl };
       port = record { fetches = refl; port_faults = refl };
@@ -122,7 +122,7 @@ module _ (Tells : Type 0) (told : Tells) (config : Fields) (opened : Opened) (h 
           untouched = work_untouched Tells told config opened h old new s known why refused pins is.0 is.2 fetches fetches faults faults begun begun there there snapshots;
           stops = stopped;
           last = last;
-          jobs = record { flight = flight; begun = refl; there = refl };
+          jobs = record { flights = flight; begun = refl; there = refl };
           retired = retired;
           pins = record { held = pins; snapshots = refl };
           port = record { fetches = refl; port_faults = refl };
@@ -131,9 +131,10 @@ module _ (Tells : Type 0) (told : Tells) (config : Fields) (opened : Opened) (h 
 
 -- The begin of a job
 
-pub some_mapped : {A B : Type 0} (f : A → B) (o : Option A) → IsSome (option_map f o) → IsSome o
-some_mapped f None is = is
-some_mapped f (Some x) is = refl
+-- where it isn't so that one is in flight, none is
+none_flying : (flights : List Flying) → (flights ≢ [] → ⊥) → flights ≡ []
+none_flying [] never = refl
+none_flying (flying ∷ more) never = absurd (never (λ same. cc))
 
 -- no device call was made, and the store is as it was
 pub known_idle : (config : Fields) (h : History) (old new : View) (s : Stored) → IsIdle old.disk new.disk → new.state ≡ old.state → new.levels ≡ old.levels → face_of new ≡ face_of old → new.retired ≡ old.retired → new.pins ≡ old.pins
@@ -141,7 +142,7 @@ pub known_idle : (config : Fields) (h : History) (old new : View) (s : Stored) �
 known_idle config h old new s idle state levels face retired pins known =
     let remembers = subst (λ (state : State). Remembers s state new.levels) (sym state) (subst (λ (levels : List (List Parts)). Remembers s old.state levels) (sym levels) known.remembers) in
     let is_beside : IsBeside old new =
-    record { levels = levels; retired = retired; flight = ap (λ (face : Face). face.flight) face; begun = ap (λ (face : Face). face.begun) face; rounds = ap (λ (face : Face). face.rounds) face; pins = pins } in
+    record { levels = levels; retired = retired; flights = ap (λ (face : Face). face.flights) face; begun = ap (λ (face : Face). face.begun) face; rounds = ap (λ (face : Face). face.rounds) face; pins = pins } in
     record {
       config_is = known.config_is;
       stands = known.stands;
@@ -155,24 +156,25 @@ known_idle config h old new s idle state levels face retired pins known =
 module _ (config : Fields) (h : History) (old new : View) (s : Stored) (fetches faults begun : ℕ) (there : Option Going) (snapshots : List ℕ)
     (state : new.state ≡ old.state) (levels : new.levels ≡ old.levels) (retired : new.retired ≡ old.retired) (pins : new.pins ≡ old.pins) (idle : IsIdle old.disk new.disk) where
   -- it was begun
-  pub has_begun : {D Page Port : Type 0} {kind : Ghosts D Page Port} (Tells : Type 0) (job : Job D Page Port kind) → job.round ≡ old.rounds → old.state.stopped ≡ None → (IsSome old.flight → ⊥) → IsBegunIn s (plain_task job.task.value)
+  pub has_begun : {D Page Port : Type 0} {kind : Ghosts D Page Port} (Tells : Type 0) (job : Job D Page Port kind) → job.round ≡ old.rounds → old.state.stopped ≡ None → (old.flights ≢ [] → ⊥) → new.flights ≡ old.flights ++ record { number = job.number; task = plain_task job.task.value; written = [] } ∷ [] → IsBegunIn s (plain_task job.task.value)
       → IsAtWork Tells new job → job.made ≡ None → kind.port_faults job.port ≡ 0
       → IsBegin h (moment_of old s fetches faults begun there snapshots) (Ok begun) h (moment_of new s fetches faults (begun + 1) (Some (going_of begun job)) snapshots)
-  has_begun {kind = kind} Tells job round runs free is works unmade unread =
-      let written = nil_from_length works.flies.flying.written (works.count ∙ works.job_is.unmade unmade) in
+  has_begun {kind = kind} Tells job round runs busy flies is works unmade unread =
+      let free = none_flying old.flights busy in
       record {
         history = refl;
         answers = record {
           number_is = refl;
           task = plain_task job.task.value;
           begun = is;
-          own = works.flies.flying.number;
-          flight = works.flies.is ∙ (λ i. Some (record { number = works.flies.flying.number; task = (sym works.flies.task) i; written = written i }));
-          there = λ i. Some (record { number = begun; round = round i; refused = works.asked i; task = plain_task job.task.value; written = works.job_is.unmade unmade i; port_faults = unread i });
+          own = job.number;
+          free = free;
+          flights = flies ∙ ap (λ (flights : List Flying). flights ++ record { number = job.number; task = plain_task job.task.value; written = [] } ∷ []) free;
+          there = λ i. Some (record { number = begun; own = job.number; round = round i; refused = works.asked i; task = plain_task job.task.value; written = works.job_is.unmade unmade i; port_faults = unread i });
           count = refl;
         };
         stops = λ at e. absurd (none-some at (sym runs ∙ e));
-        busy = λ runs busy. absurd (free busy);
+        busy = λ runs flying. absurd (busy flying);
         stored = refl;
         state = state;
         levels = levels;
@@ -187,7 +189,7 @@ module _ (config : Fields) (h : History) (old new : View) (s : Stored) (fetches 
   unbegun Tells told known (Stopped at) is = is
   unbegun Tells told known NothingDue is = (is.0, none_due is.1)
     where
-      none_due : IsSome old.flight ⊎ (Tells → (s : Stored) → Holds old s → HasNoMerge s) → IsSome old.flight ⊎ HasNoMerge s
+      none_due : (old.flights ≢ []) ⊎ (Tells → (s : Stored) → Holds old s → HasNoMerge s) → (old.flights ≢ []) ⊎ HasNoMerge s
       none_due (inl busy) = inl busy
       none_due (inr none) = inr (none told s (known.held is.0))
   unbegun Tells told known NoMemory is = tt
@@ -200,12 +202,12 @@ module _ (config : Fields) (h : History) (old new : View) (s : Stored) (fetches 
   unbegun Tells told known (Damaged name) is = is
 
   -- it was refused
-  pub has_not_begun : (Tells : Type 0) → Tells → IsKnown config h old s → (why : Refused) → HasReasonOfBegin Tells old why → new.flight ≡ old.flight
-      → ((at : ℕ) → old.state.stopped ≡ Some at → ◌≡◌ {A = Result ℕ Refused} (Err why) (Err (Stopped at))) → (old.state.stopped ≡ None → IsSome old.flight → ◌≡◌ {A = Result ℕ Refused} (Err why) (Err NothingDue))
+  pub has_not_begun : (Tells : Type 0) → Tells → IsKnown config h old s → (why : Refused) → HasReasonOfBegin Tells old why → new.flights ≡ old.flights
+      → ((at : ℕ) → old.state.stopped ≡ Some at → ◌≡◌ {A = Result ℕ Refused} (Err why) (Err (Stopped at))) → (old.state.stopped ≡ None → old.flights ≢ [] → ◌≡◌ {A = Result ℕ Refused} (Err why) (Err NothingDue))
       → IsBegin h (moment_of old s fetches faults begun there snapshots) (Err why) h (moment_of new s fetches faults begun there snapshots)
   has_not_begun Tells told known why is flight stops busy = record {
     history = refl;
-    answers = (unbegun Tells told known why is, record { flight = flight; begun = refl; there = refl });
+    answers = (unbegun Tells told known why is, record { flights = flight; begun = refl; there = refl });
     stops = stops;
     busy = busy;
     stored = refl;

@@ -19,7 +19,8 @@ use Rattle.lethe_core.specs.Asked.{Serves, behind, failure_of}
 use Rattle.lethe_core.specs.Jobs.{IsAtWork, IsInFlight}
 use Rattle.lethe_core.specs.Reasons.{HasReason}
 use Rattle.lethe_core.specs.Running.{Holds, IsSound}
-use Rattle.lethe_core.specs.View.{Face, Flying, View}
+use Rattle.lethe_core.specs.Flights.{Flying, flying_by, without}
+use Rattle.lethe_core.specs.View.{Face, View}
 use Rattle.lethe_core.proofs.Asked.{not_none}
 use Rattle.lethe_core.proofs.Hindered.{like_of}
 use Rattle.lethe_core.proofs.Installing.{begun_sound}
@@ -78,7 +79,7 @@ pub theirs_none : {D Page Port : Type 0} {kind : Ghosts D Page Port} (Tells : Ty
 theirs_none Tells view begun there none = subst (λ there. IsTheirs Tells view (record { begun = begun; there = there })) (sym none) (record { flies = tt; works = tt; reads = tt })
 
 -- where nothing happens to the job in flight
-pub theirs_on : {D Page Port : Type 0} {kind : Ghosts D Page Port} (Tells : Type 0) (old new : View) (jobs : Jobs D Page Port kind) → new.flight ≡ old.flight → new.rounds ≡ old.rounds → IsTheirs Tells old jobs → IsTheirs Tells new jobs
+pub theirs_on : {D Page Port : Type 0} {kind : Ghosts D Page Port} (Tells : Type 0) (old new : View) (jobs : Jobs D Page Port kind) → new.flights ≡ old.flights → new.rounds ≡ old.rounds → IsTheirs Tells old jobs → IsTheirs Tells new jobs
 theirs_on {D} {Page} {Port} {kind} Tells old new jobs same rounds is = record {
   flies = flies_on jobs.there is.flies;
   works = works_on jobs.there is.works;
@@ -87,7 +88,7 @@ theirs_on {D} {Page} {Port} {kind} Tells old new jobs same rounds is = record {
   where
     flies_on : (there : Option (Numbered D Page Port kind)) → IfSome there (λ numbered. IsInFlight old numbered.job) → IfSome there (λ numbered. IsInFlight new numbered.job)
     flies_on None is = tt
-    flies_on (Some numbered) is = record { flying = is.flying; is = same ∙ is.is; number = is.number; task = is.task; round = is.round ∙ sym rounds }
+    flies_on (Some numbered) is = record { flying = is.flying; is = ap (flying_by numbered.job.number) same ∙ is.is; task = is.task; round = is.round ∙ sym rounds }
 
     works_on : (there : Option (Numbered D Page Port kind)) → IfSome there (λ numbered. numbered.job.refused ≡ false → IsAtWork Tells old numbered.job)
         → IfSome there (λ numbered. numbered.job.refused ≡ false → IsAtWork Tells new numbered.job)
@@ -97,11 +98,11 @@ theirs_on {D} {Page} {Port} {kind} Tells old new jobs same rounds is = record {
         record { flies = flies_on (Some numbered) works.flies; asked = works.asked; job_is = works.job_is; count = works.count; pages = works.pages }
 
 -- how it is told
-pub going_there : {D Page Port : Type 0} {kind : Ghosts D Page Port} (Tells : Type 0) (view : View) (jobs : Jobs D Page Port kind) → IsTheirs Tells view jobs → IfSome (there_of jobs) (IsGoing view.flight)
+pub going_there : {D Page Port : Type 0} {kind : Ghosts D Page Port} (Tells : Type 0) (view : View) (jobs : Jobs D Page Port kind) → IsTheirs Tells view jobs → IfSome (there_of jobs) (IsGoing view.flights)
 going_there {D} {Page} {Port} {kind} Tells view jobs is = by jobs.there is.flies is.works
   where
     by : (there : Option (Numbered D Page Port kind)) → IfSome there (λ numbered. IsInFlight view numbered.job) → IfSome there (λ numbered. numbered.job.refused ≡ false → IsAtWork Tells view numbered.job)
-        → IfSome (option_map (λ (numbered : Numbered D Page Port kind). going_of numbered.number numbered.job) there) (IsGoing view.flight)
+        → IfSome (option_map (λ (numbered : Numbered D Page Port kind). going_of numbered.number numbered.job) there) (IsGoing view.flights)
     by None flies works = tt
     by (Some numbered) flies works = record {
       flying = flies.flying;
@@ -121,10 +122,10 @@ given (Ok done) is = refl
 given (Err why) is = absurd (nothing_in is)
 
 -- no round ends
-pub given_up_rounds : (face : Face) (state : State) → (engine.given_up face state).rounds ≡ face.rounds
-given_up_rounds face state = by (is_none state.stopped && nat_le max_place state.count)
+pub given_up_rounds : (number : ℕ) (face : Face) (state : State) → (engine.given_up number face state).rounds ≡ face.rounds
+given_up_rounds number face state = by (is_none state.stopped && nat_le max_place state.count)
   where
-    by : (full : Bool) → (if full then face else record face { flight = None }).rounds ≡ face.rounds
+    by : (full : Bool) → (if full then face else record face { flights = without number face.flights }).rounds ≡ face.rounds
     by true = refl
     by false = refl
 
@@ -170,7 +171,7 @@ module _ (Tells : Type 0) (told : Tells) (config : Fields) (opened : Opened) (h 
   GivenUp result = (t : Stored) × IsKnown config (behind h 0 (Serves Work) (result_err result)) new t × IsCancel h (moment_of old s fetches faults begun there snapshots) result (behind h 0 (Serves Work) (result_err result)) (moment_of new t fetches faults begun gone snapshots)
 
   pub given_up : (result : Result (Unit {0}) Refused) → StandsSince config opened (behind h 0 (Serves Work) (result_err result)) new → (IsSome old.state.stopped → IsStill Tells old new)
-      → IfSome (result_err result) (IsRefused Tells (Serves Work) old new) → (Holds old s → OnOk result (Holds new s)) → ((old.state.stopped ≡ None → old.state.count < max_place) → new.flight ≡ None) → new.retired ≡ old.retired → new.pins ≡ old.pins
+      → IfSome (result_err result) (IsRefused Tells (Serves Work) old new) → (Holds old s → OnOk result (Holds new s)) → ((old.state.stopped ≡ None → old.state.count < max_place) → IfSome there (λ going. new.flights ≡ without going.own old.flights)) → new.retired ≡ old.retired → new.pins ≡ old.pins
       → IfErr result (HasReason ⊥ old.state old.faults new.faults) → (result ≡ Err NoMemory → ⊥) → ((last : ℕ) → result ≡ Err (Exhausted last) → ⊥)
       → ((at : ℕ) → old.state.stopped ≡ Some at → result ≡ Err (Stopped at)) → (old.state.stopped ≡ None → old.state.count ≡ max_place → (result ≡ Ok tt) × (new ≡ old)) → GivenUp result
   given_up (Ok done) stood still refused held free retired pins why memory numbers stopped last =
@@ -183,7 +184,7 @@ module _ (Tells : Type 0) (told : Tells) (config : Fields) (opened : Opened) (h 
           stops = stopped;
           there = none;
           free = free;
-          last = λ runs full. let is = last runs full in (is.0, same_untouched is.1, ap (λ (view : View). view.flight) is.1);
+          last = λ runs full. let is = last runs full in (is.0, same_untouched is.1, ap (λ (view : View). view.flights) is.1);
           stored = λ done e. refl;
           untouched = tt;
           retired = retired;

@@ -1,6 +1,6 @@
 -- Writing on and installing a job.
 use Rattle.std.proofs.Common.{◌≡◌, ◌≤◌, ◌⊎◌, inl, inr, ℕ, ◌+◌, ◌-◌, true, false, List, ◌++◌, length, length-append, map, take, Option, Some, None, Result, Ok, Err, refl, sym, ap, ◌∙◌, subst, arith}
-use Rattle.std.specs.Prelude.{IfSome, IsSome}
+use Rattle.std.specs.Prelude.{IfSome, IsSome, option_map}
 use Rattle.std.proofs.Math.Seq.{take-append_seam}
 use Rattle.std.proofs.lemmas.List.{map-append, take-take}
 use Rattle.lethe_advance.specs.Settled.{names_in}
@@ -13,7 +13,7 @@ use Rattle.lethe_base.specs.declared.refused.Refused.{Refused}
 use Rattle.lethe_disk.specs.declared.disk.Disk.{Ghosts}
 use Rattle.lethe_stored.specs.Stored.{Stored}
 use Rattle.lethe_pins.specs.Held.{Held}
-use Rattle.lethe_core.specs.Merges.{AreFirst, IsInstalled, new_names}
+use Rattle.lethe_core.specs.Merges.{AreFirst, IsInstalledWith, new_names}
 use Rattle.lethe_job.specs.MadeOf.{numbers_in, pages_of}
 use Rattle.lethe_job.specs.Tasks.{AreSound}
 use Rattle.lethe_job.specs.Works.{PlainTask, inputs_in, plain_task}
@@ -25,7 +25,9 @@ use Rattle.lethe_core.specs.Pinned.{AreNamed}
 use Rattle.lethe_core.specs.Reasons.{HasReason, IsUnreadable}
 use Rattle.lethe_core.specs.Running.{Holds}
 use Rattle.lethe_core.specs.Steps.{IsUndone}
-use Rattle.lethe_core.specs.View.{Face, Flying, View, face_of}
+use Rattle.lethe_core.specs.Flights.{Flying, company_of, flying_by, with_pages, without}
+use Rattle.lethe_core.specs.View.{Face, View, face_of}
+use Rattle.lethe_core.proofs.Flying.{flying_pages}
 use Rattle.lethe_engine.specs.Answers.{IsStill}
 use Rattle.lethe_engine.specs.Jobs as engine
 use Rattle.lethe_engine.specs.StandsFor.{Opened, StandsSince}
@@ -43,6 +45,7 @@ use Rattle.lethe_drive.proofs.Freezing.{work_refused}
 use Rattle.lethe_drive.proofs.Knowing.{count_same, known_held, not_stopped, stopped_same}
 use Rattle.lethe_drive.proofs.Naming.{no_such, there_is}
 use Rattle.lethe_drive.proofs.Reasons.{reason_on}
+use Rattle.lethe_drive.proofs.Resting.{without_pages}
 use Rattle.lethe_drive.proofs.Writing.{nothing_in, outputs_for, some_of, spoilt}
 
 -- the first of the first pages are first
@@ -52,13 +55,16 @@ first_still names more s t are = record {
       ∙ take-append_seam names more;
 }
 
-first_before : (old mid : Option Flying) (s t : Stored) → IsWrittenOn old mid → IfSome mid (λ flying. AreFirst (names_in flying.written) s t) → IfSome old (λ flying. AreFirst (names_in flying.written) s t)
-first_before old mid s t written are =
+first_before : (number : ℕ) (old mid : List Flying) (s t : Stored) → IsWrittenOn number old mid → IfSome (flying_by number mid) (λ flying. AreFirst (names_in flying.written) s t)
+    → IfSome (flying_by number old) (λ flying. AreFirst (names_in flying.written) s t)
+first_before number old mid s t written are =
     let flying : Flying = written.flying in
-    let all : AreFirst (names_in (flying.written ++ written.pages)) s t = subst (λ (flight : Option Flying). IfSome flight (λ flying. AreFirst (names_in flying.written) s t)) written.is are in
+    let found : flying_by number mid ≡ Some (with_pages flying written.pages) =
+    ap (flying_by number) written.is ∙ flying_pages number written.pages old ∙ ap (option_map (λ (flying : Flying). with_pages flying written.pages)) written.flies in
+    let all : AreFirst (names_in (flying.written ++ written.pages)) s t = subst (λ (flying : Option Flying). IfSome flying (λ flying. AreFirst (names_in flying.written) s t)) found are in
     let split : names_in (flying.written ++ written.pages) ≡ names_in flying.written ++ names_in written.pages =
     map-append (λ (named : Name × List ℕ). named.0) flying.written written.pages in
-    subst (λ (flight : Option Flying). IfSome flight (λ flying. AreFirst (names_in flying.written) s t)) (sym written.flies)
+    subst (λ (flying : Option Flying). IfSome flying (λ flying. AreFirst (names_in flying.written) s t)) (sym written.flies)
     (first_still (names_in flying.written) (names_in written.pages) s t (subst (λ (names : List Name). AreFirst names s t) split all))
 
 module _ {D Page Port : Type 0} {kind : Ghosts D Page Port} where
@@ -86,17 +92,17 @@ module _ {D Page Port : Type 0} {kind : Ghosts D Page Port} where
     abbrev Cause : View → Stored → Job D Page Port kind → Refused → Type 0
     Cause new t back why = IsJobRefusal PortsFail (IsShortToInstall (going_of number job) (behind new t back)) before (going_of number job) (kind.port_faults back.port) (behind new t back) why
 
-    not_installed : (new : View) (t : Stored) (back : Job D Page Port kind) (why : Refused) → back.task.value ≡ job.task.value → back.round ≡ job.round → back.refused ≡ true → Cause new t back why → IsWrittenOn old.flight new.flight → new.retired ≡ old.retired
+    not_installed : (new : View) (t : Stored) (back : Job D Page Port kind) (why : Refused) → back.task.value ≡ job.task.value → back.number ≡ job.number → back.round ≡ job.round → back.refused ≡ true → Cause new t back why → IsWrittenOn job.number old.flights new.flights → new.retired ≡ old.retired
         → new.pins ≡ old.pins → (failure_of why ≡ None → t ≡ s) → IsInstall PortsFail (going_of number job) h before (Err why) (refused_to h 0 Work why) (behind new t back)
-    not_installed new t back why task round refused cause written retired pins kept = record {
+    not_installed new t back why task own round refused cause written retired pins kept = record {
       history = refl;
       answers = record {
-        spoilt = record { written = back.written; port_faults = kind.port_faults back.port; there = spoilt Tells PortsFail job back task number round refused };
+        spoilt = record { written = back.written; port_faults = kind.port_faults back.port; there = spoilt Tells PortsFail job back task number own round refused };
         reason = cause;
         flying = written.flying;
         flies = written.flies;
         pages = written.pages;
-        flight = written.is;
+        flights = written.is;
         retired = retired;
         stored = kept;
       };
@@ -113,10 +119,10 @@ module _ {D Page Port : Type 0} {kind : Ghosts D Page Port} where
     unwritten new t back why (inr is) = inr is
 
     -- a page that was left was not written
-    pub rest_refused : (new : View) (t : Stored) (back : Job D Page Port kind) (why : Refused) → back.task.value ≡ job.task.value → back.round ≡ job.round → back.refused ≡ true
-        → IsWritingOn PortsFail old new (kind.port_faults job.port) (kind.port_faults back.port) s t (Err why)
+    pub rest_refused : (new : View) (t : Stored) (back : Job D Page Port kind) (why : Refused) → back.task.value ≡ job.task.value → back.number ≡ job.number → back.round ≡ job.round → back.refused ≡ true
+        → IsWritingOn PortsFail job.number old new (kind.port_faults job.port) (kind.port_faults back.port) s t (Err why)
         → IsInstall PortsFail (going_of number job) h before (Err why) (refused_to h 0 Work why) (behind new t back)
-    rest_refused new t back why task round refused is = not_installed new t back why task round refused (unwritten new t back why is.why) is.flight is.retired is.pins is.kept
+    rest_refused new t back why task own round refused is = not_installed new t back why task own round refused (unwritten new t back why is.why) is.flights is.retired is.pins is.kept
 
     -- all pages are written
     module _ (told : Tells) (sound : AreSound (inputs_in (plain_task job.task.value))) (mid : View) (whole : Job D Page Port kind) (task : whole.task.value ≡ job.task.value) (works : IsAtWork Tells mid whole)
@@ -138,11 +144,11 @@ module _ {D Page Port : Type 0} {kind : Ghosts D Page Port} where
 
       -- the engine refused to install it
       pub install_refused : (config : Fields) (opened : Opened) → StandsSince config opened h old → StandsSince config opened h mid → old.faults ≤ mid.faults → (m : Stored) → IsKnown config h mid m → m ≡ s
-          → IsWrittenOn old.flight mid.flight → mid.retired ≡ old.retired → mid.pins ≡ old.pins → (new : View) (back : Job D Page Port kind) (why : Refused) → StandsSince config opened (refused_to h 0 Work why) new
-          → (IsSome mid.state.stopped → IsStill Tells mid new) → IsUndone Tells mid new why → face_of new ≡ face_of mid → new.retired ≡ mid.retired → new.pins ≡ mid.pins → back.task.value ≡ job.task.value → back.round ≡ job.round → back.refused ≡ true
+          → IsWrittenOn job.number old.flights mid.flights → mid.retired ≡ old.retired → mid.pins ≡ old.pins → (new : View) (back : Job D Page Port kind) (why : Refused) → StandsSince config opened (refused_to h 0 Work why) new
+          → (IsSome mid.state.stopped → IsStill Tells mid new) → IsUndone Tells mid new why → face_of new ≡ face_of mid → new.retired ≡ mid.retired → new.pins ≡ mid.pins → back.task.value ≡ job.task.value → back.number ≡ job.number → back.round ≡ job.round → back.refused ≡ true
           → HasReason (engine.IsShortToInstall mid whole) mid.state mid.faults new.faults why → new.state.next ≡ mid.state.next
           → (t : Stored) × IsKnown config (refused_to h 0 Work why) new t × IsInstall PortsFail (going_of number job) h before (Err why) (refused_to h 0 Work why) (behind new t back)
-      install_refused config opened was stands later m known stored written retired pins new back why stood still undone face left kept same round refused reason drawn =
+      install_refused config opened was stands later m known stored written retired pins new back why stood still undone face left kept same own round refused reason drawn =
           let is = work_refused Tells told config opened h mid new m known why undone stood still face kept in
           let cause : Cause new is.0 back why = inl (
             mid.faults,
@@ -152,30 +158,37 @@ module _ {D Page Port : Type 0} {kind : Ghosts D Page Port} where
             reason_on (engine.IsShortToInstall mid whole) (IsShortToInstall (going_of number job) (behind new is.0 back)) old.state mid.state mid.faults new.faults
                 (stopped_same config h old mid was.now stands.now) (count_same config h old mid was.now stands.now) why reason (λ last e runs short. short_of new is.0 back drawn short),
           ) in
-          let flight : new.flight ≡ mid.flight = ap (λ (face : Face). face.flight) face in
+          let flight : new.flights ≡ mid.flights = ap (λ (face : Face). face.flights) face in
           let stay : new.retired ≡ old.retired = left ∙ retired in
           let held : new.pins ≡ old.pins = kept ∙ pins in
-          (is.0, is.1, not_installed new is.0 back why same round refused cause (subst (IsWrittenOn old.flight) (sym flight) written) stay held (λ none. is.2 none ∙ stored))
+          (is.0, is.1, not_installed new is.0 back why same own round refused cause (subst (IsWrittenOn job.number old.flights) (sym flight) written) stay held (λ none. is.2 none ∙ stored))
 
     -- it was installed
     pub installed_whole : (config : Fields) (opened : Opened) (done : Unit {0}) (mid new : View) → StandsSince config opened h new → (whole : Job D Page Port kind) (m : Stored) (there : Option Going)
-        → whole.task.value ≡ job.task.value → IsKnown config h mid m → m ≡ s
-        → ((at : ℕ) → mid.state.stopped ≡ Some at → ⊥) → IsWrittenOn old.flight mid.flight
-        → (Holds mid m → (t : Stored) × IsInstalled m (plain_task whole.task.value) t × Holds new t × IfSome mid.flight (λ flying. AreFirst (names_in flying.written) m t)) → new.flight ≡ None → new.pins ≡ mid.pins → mid.pins ≡ old.pins
+        → whole.task.value ≡ job.task.value → whole.number ≡ job.number → IsKnown config h mid m → m ≡ s
+        → ((at : ℕ) → mid.state.stopped ≡ Some at → ⊥) → IsWrittenOn job.number old.flights mid.flights
+        → (Holds mid m → (t : Stored) × IsInstalledWith (company_of (without whole.number mid.flights)) m (plain_task whole.task.value) t × Holds new t
+        × IfSome (flying_by whole.number mid.flights) (λ flying. AreFirst (names_in flying.written) m t)) → new.flights ≡ without whole.number mid.flights → new.pins ≡ mid.pins → mid.pins ≡ old.pins
         → AreNamed new.pins.pins new.retired → there ≡ None
         → (t : Stored) × IsKnown config h new t × IsInstall PortsFail (going_of number job) h before (Ok done) h (moment_of new t fetches faults begun there snapshots)
-    installed_whole config opened done mid new stood whole m there task known same never written install free pins stay left none =
+    installed_whole config opened done mid new stood whole m there task own known same never written install ended pins stay left none =
         let made = install (known.held (not_stopped mid.state.stopped never)) in
+        let others : without whole.number mid.flights ≡ without job.number old.flights =
+        (λ i. without (own i) mid.flights) ∙ ap (without job.number) written.is ∙ without_pages job.number written.pages old.flights in
         let held : new.pins ≡ old.pins = pins ∙ stay in (
           made.0,
           known_held config opened h new stood made.0 made.2,
           record {
             history = refl;
             answers = record {
-              installed = subst (λ (m : Stored). IsInstalled m (plain_task job.task.value) made.0) same (subst (λ (task : PlainTask). IsInstalled m task made.0) (ap plain_task task) made.1);
-              first = subst (λ (m : Stored). IfSome old.flight (λ flying. AreFirst (names_in flying.written) m made.0)) same (first_before old.flight mid.flight m made.0 written made.3);
+              installed = subst (λ (m : Stored). IsInstalledWith (company_of (without job.number old.flights)) m (plain_task job.task.value) made.0) same
+                  (subst (λ (task : PlainTask). IsInstalledWith (company_of (without job.number old.flights)) m task made.0) (ap plain_task task)
+                  (subst (λ (rest : List Flying). IsInstalledWith (company_of rest) m (plain_task whole.task.value) made.0) others made.1));
+              first = subst (λ (m : Stored). IfSome (flying_by job.number old.flights) (λ flying. AreFirst (names_in flying.written) m made.0)) same
+                  (first_before job.number old.flights mid.flights m made.0 written
+                  (subst (λ (number : ℕ). IfSome (flying_by number mid.flights) (λ flying. AreFirst (names_in flying.written) m made.0)) own made.3));
               retired = subst (λ (pins : Held). AreNamed pins.pins new.retired) held left;
-              flight = free;
+              flights = ended ∙ others;
               there = none;
             };
             pins = record { held = held; snapshots = refl };

@@ -84,7 +84,7 @@ stopped_is config h view s (Some at) is = (is.before, is.change, is.history, is.
 
 -- the moment of a store of which that is known, and whose job is this
 pub moment_known : (config : Fields) (opened : Opened) (h : History) (view : View) → StandsSince config opened h view → (s : Stored) → IsKnown config h view s → (fetches faults begun : ℕ) (there : Option Going) (snapshots : List ℕ)
-    → IfSome there (IsGoing view.flight) → IsMomentOf config h (moment_of view s fetches faults begun there snapshots)
+    → IfSome there (IsGoing view.flights) → IsMomentOf config h (moment_of view s fetches faults begun there snapshots)
 moment_known config opened h view stands s known fetches faults begun there snapshots going = record {
   legal = stands.now.legal;
   count = stands.now.count;

@@ -1,7 +1,7 @@
 -- What asking a job for its next page and writing it comes to.
 use Rattle.std.proofs.Common.{◌≡◌, ◌≤◌, ◌<◌, ◌⊎◌, inl, inr, ℕ, Bool, true, false, [], length, Option, Some, Result, Ok, Err, refl, sym, ap, ◌∙◌, subst, arith}
 use Rattle.std.specs.FinMap.{insert}
-use Rattle.std.specs.Prelude.{IfSome, IsSome, List, None, ◌+◌, option_map, slice_index_or}
+use Rattle.std.specs.Prelude.{IfSome, IsSome, List, None, ◌+◌, slice_index_or}
 use Rattle.std.specs.Option.{option_map_or}
 use Rattle.std.specs.Result.{result_err}
 use Rattle.lethe_base.specs.History.{History}
@@ -20,10 +20,12 @@ use Rattle.lethe_job.specs.Works.{inputs_in, plain_task}
 use Rattle.lethe_job.specs.declared.job.Job.{Job}
 use Rattle.lethe_job.specs.declared.made.Made.{Made}
 use Rattle.lethe_core.specs.Asked.{Serves, behind, failure_of, refused_to}
-use Rattle.lethe_core.specs.Jobs.{IsAtWork, with_page}
+use Rattle.lethe_core.specs.Flights.{Flying, with_page_of}
+use Rattle.lethe_core.specs.Jobs.{IsAtWork}
 use Rattle.lethe_core.specs.Reasons.{HasReason, IsUnreadable}
 use Rattle.lethe_core.specs.Steps.{IsUndone}
-use Rattle.lethe_core.specs.View.{Face, Flying, View, face_of}
+use Rattle.lethe_core.specs.View.{Face, View, face_of}
+use Rattle.lethe_base.specs.declared.name.Name.{Name}
 use Rattle.lethe_core.proofs.Hindered.{as_itself}
 use Rattle.lethe_engine.specs.Answers.{IsStill}
 use Rattle.lethe_engine.specs.Jobs.{written_face}
@@ -35,7 +37,7 @@ use Rattle.lethe_drive.proofs.Reasons.{unread_cause, unread_history}
 use Rattle.lethe_drive.proofs.Writing.{goes_on, outputs_for, some_of, spoilt}
 
 module _ {D Page Port : Type 0} {kind : Ghosts D Page Port} (Tells PortsFail : Type 0) (h : History) (old : View) (s : Stored) (number fetches faults begun : ℕ) (snapshots : List ℕ) (job mid : Job D Page Port kind)
-    (task : mid.task.value ≡ job.task.value) (round : mid.round ≡ job.round) where
+    (task : mid.task.value ≡ job.task.value) (own : mid.number ≡ job.number) (round : mid.round ≡ job.round) where
   abbrev before : Moment
   before = moment_of old s fetches faults begun (Some (going_of number job)) snapshots
 
@@ -55,9 +57,9 @@ module _ {D Page Port : Type 0} {kind : Ghosts D Page Port} (Tells PortsFail : T
     page_refused t same is refused = record {
       history = refl;
       answers = record {
-        spoilt = record { written = mid.written; port_faults = kind.port_faults mid.port; there = spoilt Tells PortsFail job mid task number round refused };
+        spoilt = record { written = mid.written; port_faults = kind.port_faults mid.port; there = spoilt Tells PortsFail job mid task number own round refused };
         reason = inl (old.faults, new.faults, omega arith, omega arith, is);
-        flight = ap (λ (face : Face). face.flight) face;
+        flights = ap (λ (face : Face). face.flights) face;
         untouched = work_untouched Tells told config opened h old new s known why undone pins t same fetches fetches faults faults begun begun (Some (going_of number job)) (Some (going_of number mid)) snapshots;
       };
       retired = retired;
@@ -84,10 +86,10 @@ module _ {D Page Port : Type 0} {kind : Ghosts D Page Port} (Tells PortsFail : T
   page_unread told sound why is refused = record {
     history = refl;
     answers = record {
-      spoilt = record { written = mid.written; port_faults = kind.port_faults mid.port; there = spoilt Tells PortsFail job mid task number round refused };
+      spoilt = record { written = mid.written; port_faults = kind.port_faults mid.port; there = spoilt Tells PortsFail job mid task number own round refused };
       reason = unread_reason why (unread_cause Tells PortsFail (max_place ≤ old.state.next) (inputs_in (plain_task job.task.value)) (kind.port_faults job.port) (kind.port_faults mid.port)
           old.state old.faults old.faults told sound why is);
-      flight = refl;
+      flights = refl;
       untouched = λ none. record { stored = refl; state = (as_itself Tells old).state; levels = refl; retired = refl; pins = refl; directory = refl };
     };
     retired = refl;
@@ -118,18 +120,18 @@ module _ {D Page Port : Type 0} {kind : Ghosts D Page Port} (Tells PortsFail : T
     made_is = (some_of mid.made some).1
 
     -- the next page was written
-    pub page_written : (new : View) (after : Job D Page Port kind) → after.task.value ≡ mid.task.value → after.round ≡ mid.round → after.refused ≡ false → after.written ≡ mid.written + 1 → IfSome mid.made (λ made. job.written < length (pages_of made))
-        → face_of new ≡ written_face (face_of old) (page_name old.state.next, next_bytes mid) (Ok tt) → new.retired ≡ old.retired → new.pins ≡ old.pins → new.disk.directory ≡ insert old.disk.directory (page_name old.state.next) (next_bytes mid)
+    pub page_written : (new : View) (after : Job D Page Port kind) → after.task.value ≡ mid.task.value → after.number ≡ mid.number → after.round ≡ mid.round → after.refused ≡ false → after.written ≡ mid.written + 1 → IfSome mid.made (λ made. job.written < length (pages_of made))
+        → face_of new ≡ written_face mid.number (face_of old) (page_name old.state.next, next_bytes mid) (Ok tt) → new.retired ≡ old.retired → new.pins ≡ old.pins → new.disk.directory ≡ insert old.disk.directory (page_name old.state.next) (next_bytes mid)
         → IsWriteOut PortsFail (going_of number job) h before (Ok true) h (later new s after)
-    page_written new after kept stays asked more left face retired pins directory =
+    page_written new after kept named stays asked more left face retired pins directory =
         let P : Option Made → Type 0 = λ o. IfSome o (λ made. job.written < length (pages_of made)) in
         let few : job.written < length (pages_of made) = subst P made_is left in
         let count = works.count in
         let bytes : next_bytes mid ≡ slice_index_or (pages_of made) mid.written [] =
         ap (λ (o : Option Made). option_map_or (λ (made : Made). slice_index_or (pages_of made) mid.written []) o []) made_is in
-        let put : new.flight ≡ Some (with_page flying (page_name old.state.next, slice_index_or (pages_of made) mid.written [])) =
-        ap (λ (face : Face). face.flight) face ∙ ap (option_map (λ (flying : Flying). with_page flying (page_name old.state.next, next_bytes mid))) works.flies.is
-        ∙ ap (λ (b : List ℕ). Some (with_page flying (page_name old.state.next, b))) bytes in
+        let page : List ℕ → Name × List ℕ = λ bytes. (page_name old.state.next, bytes) in
+        let put : new.flights ≡ with_page_of job.number (page (slice_index_or (pages_of made) mid.written [])) old.flights =
+        ap (λ (face : Face). face.flights) face ∙ ap (λ (n : ℕ). with_page_of n (page (next_bytes mid)) old.flights) own ∙ ap (λ (b : List ℕ). with_page_of job.number (page b) old.flights) bytes in
         let place : mid.written ≡ length flying.written = written ∙ sym count in
         record {
           history = refl;
@@ -141,12 +143,12 @@ module _ {D Page Port : Type 0} {kind : Ghosts D Page Port} (Tells PortsFail : T
             left = let low : length flying.written < length (pages_of made) = omega arith in low;
             bytes = slice_index_or (pages_of made) (length flying.written) [];
             next = refl;
-            flight = put ∙ (λ i. Some (with_page flying (page_name old.state.next, slice_index_or (pages_of made) (place i) [])));
+            flights = put ∙ (λ i. with_page_of job.number (page (slice_index_or (pages_of made) (place i) [])) old.flights);
             directory = directory ∙ ap (insert old.disk.directory (page_name old.state.next)) (bytes ∙ (λ i. slice_index_or (pages_of made) (place i) []));
             stored = refl;
             goes_on = record {
               port_faults = kind.port_faults after.port;
-              there = goes_on Tells PortsFail job after (kept ∙ task) number (job.written + 1) (stays ∙ round) works.asked asked (more ∙ ap (λ n. n + 1) written);
+              there = goes_on Tells PortsFail job after (kept ∙ task) number (job.written + 1) (named ∙ own) (stays ∙ round) works.asked asked (more ∙ ap (λ n. n + 1) written);
             };
           };
           retired = retired;
@@ -171,11 +173,11 @@ module _ {D Page Port : Type 0} {kind : Ghosts D Page Port} (Tells PortsFail : T
             made = made;
             outputs = outputs_for Tells PortsFail job mid task told sound is made made_is;
             all = count ∙ whole job.written mid.written (length (pages_of made)) written few over;
-            flight = refl;
+            flights = refl;
             stored = refl;
             state = refl;
             calls = refl;
-            goes_on = record { port_faults = kind.port_faults mid.port; there = goes_on Tells PortsFail job mid task number job.written round works.asked asked written };
+            goes_on = record { port_faults = kind.port_faults mid.port; there = goes_on Tells PortsFail job mid task number job.written own round works.asked asked written };
           };
           retired = refl;
           pins = record { held = refl; snapshots = refl };

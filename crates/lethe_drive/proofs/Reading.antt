@@ -16,7 +16,7 @@ use Rattle.lethe_drive.specs.Moments.{Going, IsAllButPort, moment_of}
 
 module _ {T : Type 0} (PortsFail : Type 0) (read : Read) (told : T → Answer) (h : History) (view : View) (s : Stored) (fetches_before fetches_now faults_before faults_now begun : ℕ) (there : Option Going) (snapshots : List ℕ) where
   same : IsAllButPort (moment_of view s fetches_before faults_before begun there snapshots) (moment_of view s fetches_now faults_now begun there snapshots)
-  same = record { stored = refl; state = refl; levels = refl; retired = refl; pins = refl; flight = refl; directory = refl; calls = refl; faults = refl; begun = refl; there = refl; snapshots = refl }
+  same = record { stored = refl; state = refl; levels = refl; retired = refl; pins = refl; flights = refl; directory = refl; calls = refl; faults = refl; begun = refl; there = refl; snapshots = refl }
 
   read_refused : (why : Refused) → IsReadRefusal why → ((before after : ℕ) → why ≡ ReadFault before after → (before ≡ faults_before) × (after ≡ faults_now) × Rose before after)
       → ((before after : ℕ) → why ≡ ReadFault before after → PortsFail) → ((name : Name) → why ≡ Damaged name → ⊥) → (why ≡ NoMemory) ⊎ IsUnreadable (Unit {0}) PortsFail faults_before faults_now why

@@ -1,8 +1,7 @@
 -- The pages of a job, written one after another: what is stored stays, and where one of them is refused so is the whole.
-use Rattle.std.proofs.Common.{◌≡◌, ◌≤◌, ◌⊎◌, inl, inr, ℕ, Bool, true, false, List, [], ◌∷◌, ◌++◌, Option, Some, None, Result, Ok, Err, refl, sym, ap, ◌∙◌, subst, append-nil, append_assoc, arith}
-use Rattle.std.specs.Prelude.{IsSome}
+use Rattle.std.proofs.Common.{◌≡◌, ◌≤◌, ◌⊎◌, inl, inr, ℕ, Bool, true, false, List, [], ◌∷◌, ◌++◌, cond, not, Option, Some, None, Result, Ok, Err, refl, sym, ap, ◌∙◌, subst, append-nil, append_assoc, arith}
+use Rattle.std.specs.Prelude.{◌==◌, IsSome, if◌then◌else◌}
 use Rattle.std.specs.Result.{result_err}
-use Rattle.std.proofs.lemmas.Option.{same_Some}
 use Rattle.lethe_base.specs.History.{History}
 use Rattle.lethe_base.specs.Limits.{max_place}
 use Rattle.lethe_base.specs.declared.call.Call.TheVariants.{Work}
@@ -18,7 +17,8 @@ use Rattle.lethe_job.specs.declared.job.Job.{Job}
 use Rattle.lethe_core.specs.Asked.{Serves, behind}
 use Rattle.lethe_core.specs.Jobs.{IsAtWork}
 use Rattle.lethe_core.specs.Reasons.{HasReason, IsUnreadable}
-use Rattle.lethe_core.specs.View.{Flying, View}
+use Rattle.lethe_core.specs.Flights.{Flying, flying_by, with_pages, with_pages_of, without}
+use Rattle.lethe_core.specs.View.{View}
 use Rattle.lethe_engine.specs.StandsFor.{Opened, StandsFor}
 use Rattle.lethe_drive.specs.Answers.{IsWriteOut}
 use Rattle.lethe_drive.specs.Driving.{IsWritingOn, IsWrittenOn}
@@ -26,46 +26,80 @@ use Rattle.lethe_drive.specs.Moments.{Going, IsKnown, Moment, going_of, moment_o
 use Rattle.lethe_drive.proofs.Knowing.{count_same, stopped_same}
 use Rattle.lethe_drive.proofs.Reasons.{reason_on}
 
--- The pages of the job in flight
+-- The pages of a job in flight
 
-pub none_more : (flight : Option Flying) (flying : Flying) → flight ≡ Some flying → IsWrittenOn flight flight
-none_more flight flying is = record {
-  flying = flying;
-  flies = is;
-  pages = [];
-  is = is ∙ (λ i. Some (record flying { written = sym (append-nil flying.written) i }));
-}
+module _ (number : ℕ) where
+  abbrev with_more : List (Name × List ℕ) → Flying → Flying
+  with_more pages flying = if flying.number == number then with_pages flying pages else flying
 
-some_more : (old mid new : Option Flying) → IsWrittenOn old mid → (flying : Flying) → mid ≡ Some flying → (pages : List (Name × List ℕ)) → new ≡ Some (record flying { written = flying.written ++ pages }) → IsWrittenOn old new
-some_more old mid new so_far flying flies pages is =
-    let first : Flying = so_far.flying in
-    let same : flying ≡ record first { written = first.written ++ so_far.pages } = same_Some flying (record first { written = first.written ++ so_far.pages }) (sym flies ∙ so_far.is) in
-    record {
-      flying = first;
-      flies = so_far.flies;
-      pages = so_far.pages ++ pages;
-      is = is ∙ (λ i. Some (record (same i) { written = (same i).written ++ pages })) ∙ (λ i. Some (record first { written = append_assoc first.written so_far.pages pages i }));
-    }
+  none_of : (flying : Flying) (same : Bool) → (if same then with_pages flying [] else flying) ≡ flying
+  none_of flying true = λ i. record flying { written = append-nil flying.written i }
+  none_of flying false = refl
 
-no_more : (old mid new : Option Flying) → IsWrittenOn old mid → new ≡ mid → IsWrittenOn old new
-no_more old mid new so_far same = subst (IsWrittenOn old) (sym same) so_far
+  pages_none : (flights : List Flying) → with_pages_of number [] flights ≡ flights
+  pages_none [] = refl
+  pages_none (flying ∷ more) = λ i. none_of flying (flying.number == number) i ∷ pages_none more i
 
-one_more : (PortsFail : Type 0) (going : Going) (h : History) (first : Option Flying) (old : Moment) (wrote : Bool) (g : History) (new : Moment) → IsWriteOut PortsFail going h old (Ok wrote) g new
-    → IsWrittenOn first old.flight → IsWrittenOn first new.flight
+  again_of : (pages more : List (Name × List ℕ)) (flying : Flying) → with_more more (with_more pages flying) ≡ with_more (pages ++ more) flying
+  again_of pages more flying = by (flying.number == number) refl
+    where
+      by : (same : Bool) → (flying.number == number) ≡ same → with_more more (with_more pages flying) ≡ with_more (pages ++ more) flying
+      by true at =
+          (λ i. with_more more (if at i then with_pages flying pages else flying)) ∙ (λ i. if at i then with_pages (with_pages flying pages) more else with_pages flying pages)
+          ∙ (λ i. record flying { written = append_assoc flying.written pages more i }) ∙ sym (λ i. if at i then with_pages flying (pages ++ more) else flying)
+      by false at = (λ i. with_more more (if at i then with_pages flying pages else flying)) ∙ (λ i. if at i then with_pages flying more else flying) ∙ sym (λ i. if at i then with_pages flying (pages ++ more) else flying)
+
+  pages_again : (pages more : List (Name × List ℕ)) (flights : List Flying) → with_pages_of number more (with_pages_of number pages flights) ≡ with_pages_of number (pages ++ more) flights
+  pages_again pages more [] = refl
+  pages_again pages more (flying ∷ flights) = λ i. again_of pages more flying i ∷ pages_again pages more flights i
+
+  abbrev kept : Bool → Flying → List Flying → List Flying
+  kept same first rest = cond (not same) (first ∷ rest) rest
+
+  -- which pages were written doesn't matter to the others
+  pub without_pages : (pages : List (Name × List ℕ)) (flights : List Flying) → without number (with_pages_of number pages flights) ≡ without number flights
+  without_pages pages [] = refl
+  without_pages pages (flying ∷ more) = by (flying.number == number) refl (without_pages pages more)
+    where
+      by : (same : Bool) → (flying.number == number) ≡ same → without number (with_pages_of number pages more) ≡ without number more
+          → without number (with_pages_of number pages (flying ∷ more)) ≡ without number (flying ∷ more)
+      by true at rest =
+          (λ i. without number ((if at i then with_pages flying pages else flying) ∷ with_pages_of number pages more))
+          ∙ (λ i. kept (at i) (with_pages flying pages) (without number (with_pages_of number pages more))) ∙ rest ∙ sym (λ i. kept (at i) flying (without number more))
+      by false at rest =
+          (λ i. without number ((if at i then with_pages flying pages else flying) ∷ with_pages_of number pages more))
+          ∙ (λ i. kept (at i) flying (without number (with_pages_of number pages more))) ∙ (λ i. flying ∷ rest i) ∙ sym (λ i. kept (at i) flying (without number more))
+
+  pub none_more : (flights : List Flying) (flying : Flying) → flying_by number flights ≡ Some flying → IsWrittenOn number flights flights
+  none_more flights flying is = record { flying = flying; flies = is; pages = []; is = sym (pages_none flights) }
+
+  some_more : (old mid new : List Flying) → IsWrittenOn number old mid → (pages : List (Name × List ℕ)) → new ≡ with_pages_of number pages mid → IsWrittenOn number old new
+  some_more old mid new so_far pages is = record {
+    flying = so_far.flying;
+    flies = so_far.flies;
+    pages = so_far.pages ++ pages;
+    is = is ∙ ap (with_pages_of number pages) so_far.is ∙ pages_again so_far.pages pages old;
+  }
+
+  no_more : (old mid new : List Flying) → IsWrittenOn number old mid → new ≡ mid → IsWrittenOn number old new
+  no_more old mid new so_far same = subst (IsWrittenOn number old) (sym same) so_far
+
+one_more : (PortsFail : Type 0) (going : Going) (h : History) (first : List Flying) (old : Moment) (wrote : Bool) (g : History) (new : Moment) → IsWriteOut PortsFail going h old (Ok wrote) g new
+    → IsWrittenOn going.own first old.flights → IsWrittenOn going.own first new.flights
 one_more PortsFail going h first old true g new is so_far =
     let wrote = is.answers in
-    some_more first old.flight new.flight so_far wrote.flying wrote.flies ((page_name old.state.next, wrote.bytes) ∷ []) wrote.flight
-one_more PortsFail going h first old false g new is so_far = no_more first old.flight new.flight so_far is.answers.flight
+    some_more going.own first old.flights new.flights so_far ((page_name old.state.next, wrote.bytes) ∷ []) wrote.flights
+one_more PortsFail going h first old false g new is so_far = no_more going.own first old.flights new.flights so_far is.answers.flights
 
--- the history for which a store stands, what it is known to have stored, the retired pages and the pins are as they were, and the job in flight has more pages
-abbrev pub Rests : Type 0 → View → View → Type 0
-Rests Tells old new =
-    Tells → (config : Fields) (opened : Opened) (h : History) (answered : List Certificate) → StandsFor config opened h old answered → (s : Stored) → IsKnown config h old s → StandsFor config opened h new answered × IsKnown config h new s × IsWrittenOn old.flight new.flight
+-- the history for which a store stands, what it is known to have stored, the retired pages and the pins are as they were, and the job of a number has more pages
+abbrev pub Rests : Type 0 → ℕ → View → View → Type 0
+Rests Tells number old new =
+    Tells → (config : Fields) (opened : Opened) (h : History) (answered : List Certificate) → StandsFor config opened h old answered → (s : Stored) → IsKnown config h old s → StandsFor config opened h new answered × IsKnown config h new s × IsWrittenOn number old.flights new.flights
     × (new.retired ≡ old.retired) × (new.pins ≡ old.pins)
 
 -- nothing was written yet
-pub rests_first : {D Page Port : Type 0} {kind : Ghosts D Page Port} (Tells : Type 0) (old : View) (job : Job D Page Port kind) → IsAtWork Tells old job → Rests Tells old old
-rests_first Tells old job works = λ told config opened h answered stands s known. (stands, known, none_more old.flight works.flies.flying works.flies.is, refl, refl)
+pub rests_first : {D Page Port : Type 0} {kind : Ghosts D Page Port} (Tells : Type 0) (old : View) (job : Job D Page Port kind) → IsAtWork Tells old job → Rests Tells job.number old old
+rests_first Tells old job works = λ told config opened h answered stands s known. (stands, known, none_more job.number old.flights works.flies.flying works.flies.is, refl, refl)
 
 same_stored : (PortsFail : Type 0) (going : Going) (h : History) (old : Moment) (wrote : Bool) (g : History) (new : Moment) → IsWriteOut PortsFail going h old (Ok wrote) g new → new.stored ≡ old.stored
 same_stored PortsFail going h old true g new is = is.answers.stored
@@ -114,7 +148,7 @@ module _ (PortsFail : Type 0) (old mid new : View) (faults : old.faults ≤ mid.
 
 -- A turn
 
-module _ {D Page Port : Type 0} {kind : Ghosts D Page Port} (Tells PortsFail : Type 0) (old mid new : View) (job after : Job D Page Port kind) where
+module _ {D Page Port : Type 0} {kind : Ghosts D Page Port} (Tells PortsFail : Type 0) (old mid new : View) (job after : Job D Page Port kind) (own : ℕ) where
   -- the next page is written, or none is left
   abbrev pub Turns : Result Bool Refused → Type 0
   Turns result = Tells → (config : Fields) (opened : Opened) (h : History) (answered : List Certificate) → StandsFor config opened h mid answered → (s : Stored) → IsKnown config h mid s → (number fetches faults begun : ℕ) (snapshots : List ℕ)
@@ -125,27 +159,28 @@ module _ {D Page Port : Type 0} {kind : Ghosts D Page Port} (Tells PortsFail : T
   -- what the turns come to
   abbrev pub Comes : ℕ → Result (Unit {0}) Refused → Type 0
   Comes first result = Tells → (config : Fields) (opened : Opened) (h : History) (answered : List Certificate) → StandsFor config opened h old answered → (s : Stored) → IsKnown config h old s
-      → (t : Stored) × IsKnown config (behind h 0 (Serves Work) (result_err result)) new t × StandsFor config opened (behind h 0 (Serves Work) (result_err result)) new answered × IsWritingOn PortsFail old new first (kind.port_faults after.port) s t result
+      → (t : Stored) × IsKnown config (behind h 0 (Serves Work) (result_err result)) new t × StandsFor config opened (behind h 0 (Serves Work) (result_err result)) new answered × IsWritingOn PortsFail own old new first (kind.port_faults after.port) s t result
 
   -- one more was acknowledged
-  pub rests_on : (wrote : Bool) → Rests Tells old mid → Turns (Ok wrote) → Rests Tells old new
-  rests_on wrote rests turn = λ told config opened h answered stands s known.
+  pub rests_on : job.number ≡ own → (wrote : Bool) → Rests Tells own old mid → Turns (Ok wrote) → Rests Tells own old new
+  rests_on same wrote rests turn = λ told config opened h answered stands s known.
       let so_far = rests told config opened h answered stands s known in
       let turned = turn told config opened h answered so_far.0 s so_far.1 0 0 0 0 [] in
       let before = moment_of mid s 0 0 0 (Some (going_of 0 job)) [] in
       let now = moment_of new turned.0 0 0 0 (Some (going_of 0 after)) [] in (
         turned.2,
         subst (IsKnown config h new) (same_stored PortsFail (going_of 0 job) h before wrote h now turned.3) turned.1,
-        one_more PortsFail (going_of 0 job) h old.flight before wrote h now turned.3 so_far.2,
+        subst (λ (n : ℕ). IsWrittenOn n old.flights new.flights) same
+            (one_more PortsFail (going_of 0 job) h old.flights before wrote h now turned.3 (subst (λ (n : ℕ). IsWrittenOn n old.flights mid.flights) (sym same) so_far.2)),
         turned.3.retired ∙ so_far.3,
         turned.3.pins.held ∙ so_far.4,
       )
 
   -- the last one was acknowledged
-  pub all_written : (first : ℕ) → Rests Tells old new → Comes first (Ok tt)
+  pub all_written : (first : ℕ) → Rests Tells own old new → Comes first (Ok tt)
   all_written first rests = λ told config opened h answered stands s known.
       let in_the_end = rests told config opened h answered stands s known in
-      (s, in_the_end.1, in_the_end.0, record { done = refl; why = tt; kept = tt; flight = in_the_end.2; retired = in_the_end.3; pins = in_the_end.4 })
+      (s, in_the_end.1, in_the_end.0, record { done = refl; why = tt; kept = tt; flights = in_the_end.2; retired = in_the_end.3; pins = in_the_end.4 })
 
   -- once its outputs are made a job reads no more
   no_more_read : (first : Job D Page Port kind) (why : Refused) → (job.port ≡ first.port) ⊎ IsSome job.made → (IsSome job.made → (b n : ℕ) → ◌≡◌ {A = Result Bool Refused} (Err why) (Err (ReadFault b n)) → ⊥)
@@ -154,7 +189,7 @@ module _ {D Page Port : Type 0} {kind : Ghosts D Page Port} (Tells PortsFail : T
   no_more_read first why (inr made) never = inr (λ b n e. never made b n (λ i. Err (e i)))
 
   -- one was refused
-  pub turn_refused : (first : Job D Page Port kind) (why : Refused) → Rests Tells old mid → Turns (Err why) → old.faults ≤ mid.faults → new.state.next ≡ mid.state.next
+  pub turn_refused : (first : Job D Page Port kind) (why : Refused) → Rests Tells own old mid → Turns (Err why) → old.faults ≤ mid.faults → new.state.next ≡ mid.state.next
       → (job.port ≡ first.port) ⊎ IsSome job.made → (IsSome job.made → (b n : ℕ) → ◌≡◌ {A = Result Bool Refused} (Err why) (Err (ReadFault b n)) → ⊥) → Comes (kind.port_faults first.port) (Err why)
   turn_refused first why rests turn faults drawn port never = λ told config opened h answered stands s known.
       let so_far = rests told config opened h answered stands s known in
@@ -172,7 +207,7 @@ module _ {D Page Port : Type 0} {kind : Ghosts D Page Port} (Tells PortsFail : T
               (since PortsFail old mid new faults drawn (kind.port_faults first.port) (kind.port_faults job.port) spoilt.port_faults why (no_more_read first why port never)
               (stopped_same config h old mid stands.since.now so_far.0.since.now) (count_same config h old mid stands.since.now so_far.0.since.now) refused.reason);
           kept = λ none. (refused.untouched none).stored;
-          flight = no_more old.flight mid.flight new.flight so_far.2 refused.flight;
+          flights = no_more own old.flights mid.flights new.flights so_far.2 refused.flights;
           retired = turned.3.retired ∙ so_far.3;
           pins = turned.3.pins.held ∙ so_far.4;
         },

@@ -1,6 +1,7 @@
 -- What runs of events come to: two puts and a get, and a job from its begin to its end.
-use Rattle.std.proofs.Common.{◌≡◌, ◌≢◌, ◌≤◌, ◌⊎◌, inl, inr, ℕ, ◌+◌, Bool, true, false, List, [], ◌∷◌, length, All, Option, Some, None, Result, Ok, Err, refl, sym, ap, ◌∙◌, subst, arith}
-use Rattle.std.specs.Prelude.{if◌then◌else◌}
+use Rattle.std.proofs.Common.{◌≡◌, ◌≢◌, ◌≤◌, ◌⊎◌, inl, inr, ℕ, ◌+◌, Bool, true, false, List, [], ◌∷◌, length, All, cond, not, Option, Some, None, Result, Ok, Err, refl, sym, ap, ◌∙◌, subst, arith}
+use Rattle.std.specs.Prelude.{◌==◌, if◌then◌else◌}
+use Rattle.std.proofs.lemmas.Bool.Decides.{nat_tests}
 use Rattle.std.proofs.lemmas.List.{length_push}
 use Rattle.std.proofs.lemmas.List.Elements.{All-head, All-tail}
 use Rattle.std.proofs.lemmas.Option.{none-some, same_Some}
@@ -24,7 +25,9 @@ use Rattle.lethe_stored.specs.Stored.{Stored}
 use Rattle.lethe_state.specs.Room.{HasRoom}
 use Rattle.lethe_job.specs.Works.{IsBegunIn, PlainTask}
 use Rattle.lethe_core.specs.Changes.{put_over}
-use Rattle.lethe_core.specs.Merges.{IsInstalled, IsRoomMadeBy}
+use Rattle.lethe_file.specs.Agreement.{page_name}
+use Rattle.lethe_core.specs.Flights.{Flying, company_of, without}
+use Rattle.lethe_core.specs.Merges.{IsInstalled, IsInstalledWith, IsRoomMadeBy}
 use Rattle.lethe_core.specs.Reasons.{HasReason, IsShort, IsUnreadable}
 use Rattle.lethe_engine.specs.Refusals.{SeesRoom}
 use Rattle.lethe_drive.specs.Answers.{HasBegun, IsBegin, IsChange, IsChanged, IsFull, IsInstall, IsRead, IsShortToMerge, IsUnchanged, IsWriteOut}
@@ -36,6 +39,7 @@ use Rattle.lethe_drive.specs.declared.event.Event.TheVariants as event
 use Rattle.lethe_drive.specs.declared.event.Reply.{Reply}
 use Rattle.lethe_drive.specs.declared.event.Reply.TheVariants as reply
 use Rattle.lethe_drive.proofs.Knowing.{done_last, done_or_failed, room_in}
+use Rattle.lethe_drive.proofs.Resting.{without_pages}
 
 -- A put that is done
 
@@ -79,7 +83,7 @@ module _ (PortsFail : Type 0) (config : Fields) (h : History) (old : Moment) (is
   has : HasRoomForOne → HasRoom old.stored
   has room = room_in old.stored old.state old.levels is.remembers (sees room)
 
-  cleared_is : HasRoomForOne → {outcomes : List _} (cleared : Stored) → IsRoomMadeBy old.flight old.stored outcomes cleared → cleared ≡ old.stored
+  cleared_is : HasRoomForOne → {outcomes : List _} (cleared : Stored) → IsRoomMadeBy old.flights old.stored outcomes cleared → cleared ≡ old.stored
   cleared_is room cleared (inl made) = made.2
   cleared_is room cleared (inr made) = absurd (made.0 (has room))
 
@@ -237,16 +241,34 @@ module _ (PortsFail : Type 0) (h : History) (old : Moment) (going : Going) (wrot
     after : Going
     there : new.there ≡ Some after
     task : after.task ≡ going.task
+    own : after.own ≡ going.own
+    others : without going.own new.flights ≡ without going.own old.flights
 
   wrote_as : (result : Result Bool Refused) → reply.Flag wrote ≡ flagged result → IsWriteOut PortsFail going h old result g new → Keeps
   wrote_as (Ok true) told is =
       let written = is.answers in
       let goes_on = written.goes_on in
-      record { history = is.history; stored = written.stored; after = record going { written = going.written + 1; port_faults = goes_on.port_faults }; there = goes_on.there; task = refl }
+      record {
+        history = is.history;
+        stored = written.stored;
+        after = record going { written = going.written + 1; port_faults = goes_on.port_faults };
+        there = goes_on.there;
+        task = refl;
+        own = refl;
+        others = ap (without going.own) written.flights ∙ without_pages going.own ((page_name old.state.next, written.bytes) ∷ []) old.flights;
+      }
   wrote_as (Ok false) told is =
       let none = is.answers in
       let goes_on = none.goes_on in
-      record { history = is.history; stored = none.stored; after = record going { written = going.written; port_faults = goes_on.port_faults }; there = goes_on.there; task = refl }
+      record {
+        history = is.history;
+        stored = none.stored;
+        after = record going { written = going.written; port_faults = goes_on.port_faults };
+        there = goes_on.there;
+        task = refl;
+        own = refl;
+        others = ap (without going.own) none.flights;
+      }
   wrote_as (Err why) told is = absurd (let clash : reply.Flag wrote ≡ reply.Refused why = told in cc)
 
 -- and it was installed
@@ -259,12 +281,12 @@ module _ (PortsFail : Type 0) (number : ℕ) (h : History) (old : Moment) (going
 
   record Ends : Type 0 where
     history : g ≡ h
-    installed : IsInstalled old.stored going.task new.stored
-    flight : new.flight ≡ None
+    installed : IsInstalledWith (company_of (without going.own old.flights)) old.stored going.task new.stored
+    flights : new.flights ≡ without going.own old.flights
     gone : new.there ≡ None
 
   ended_as : (result : Result (Unit {0}) Refused) → reply.Unit ≡ united result → IsInstall PortsFail going h old result g new → Ends
-  ended_as (Ok done) told is = let installed = is.answers in record { history = is.history; installed = installed.installed; flight = installed.flight; gone = installed.there }
+  ended_as (Ok done) told is = let installed = is.answers in record { history = is.history; installed = installed.installed; flights = installed.flights; gone = installed.there }
   ended_as (Err why) told is = absurd (let clash : reply.Unit ≡ reply.Refused why = told in cc)
 
   ends : IsStep PortsFail h old (event.Install number) reply.Unit g new → Ends
@@ -282,9 +304,15 @@ module _ (number : ℕ) (h : History) (old : Run) (g : History) (new : Run) wher
       by true why told = there told
       by false why told = fine why told
 
+-- where a job flies alone none is left without it
+alone_gone : (number : ℕ) (flying : Flying) → flying.number ≡ number → without number (flying ∷ []) ≡ []
+alone_gone number flying same =
+    let at : (flying.number == number) ≡ true = grind (arith, nat_tests) in
+    ap (λ (b : Bool). cond (not b) (flying ∷ []) []) at
+
 pub job_done : (PortsFail : Type 0) (config : Fields) (h g : History) (start finish : Run) (number : ℕ) (wrote : Bool)
     → Steps PortsFail config h start (event.Begin ∷ event.WriteOut number ∷ event.Install number ∷ []) (reply.Job number ∷ reply.Flag wrote ∷ reply.Unit ∷ []) g finish
-    → (g ≡ h) × ((task : PlainTask) × IsBegunIn start.now.stored task × IsInstalled start.now.stored task finish.now.stored) × (finish.now.flight ≡ None) × (finish.now.there ≡ None)
+    → (g ≡ h) × ((task : PlainTask) × IsBegunIn start.now.stored task × IsInstalled start.now.stored task finish.now.stored) × (finish.now.flights ≡ []) × (finish.now.there ≡ None)
 job_done PortsFail config h g start finish number wrote steps =
     let others = steps.5 in
     let last = others.5 in
@@ -292,7 +320,7 @@ job_done PortsFail config h g start finish number wrote steps =
     let begin = steps.4.0 in
     let begun = (begun_as h start.now number steps.0 steps.1.now begin.0 begin.1 begin.2).1 in
     let own = (begun_as h start.now number steps.0 steps.1.now begin.0 begin.1 begin.2).0 in
-    let first : Going = record { number = own; round = start.now.rounds; refused = false; task = begun.task; written = 0; port_faults = 0 } in
+    let first : Going = record { number = own; own = begun.own; round = start.now.rounds; refused = false; task = begun.task; written = 0; port_faults = 0 } in
     let write : IsStep PortsFail steps.0 steps.1.now (event.WriteOut number) (reply.Flag wrote) others.0 others.1.now = elim others.4 [
       | inl past ↦ absurd (never_past number steps.0 steps.1 others.0 others.1 (reply.Flag wrote) (λ clash. cc) (λ why clash. cc) past)
       | inr present ↦ present.1.0
@@ -304,10 +332,14 @@ job_done PortsFail config h g start finish number wrote steps =
     let written = wrote_next PortsFail number steps.0 steps.1.now first begun.there others.0 others.1.now wrote write in
     let ended = ends PortsFail number others.0 others.1.now written.after written.there last.0 last.1.now install in
     let stored : others.1.now.stored ≡ start.now.stored = written.stored ∙ begin.2.stored in
+    let rest : without written.after.own others.1.now.flights ≡ [] =
+    (λ i. without (written.own i) others.1.now.flights) ∙ written.others ∙ ap (without begun.own) begun.flights ∙ alone_gone begun.own (record { number = begun.own; task = begun.task; written = [] }) refl in
+    let last_one : IsInstalled others.1.now.stored written.after.task last.1.now.stored =
+    subst (λ (rest : List Flying). IsInstalledWith (company_of rest) others.1.now.stored written.after.task last.1.now.stored) rest ended.installed in
     let installed : IsInstalled start.now.stored begun.task last.1.now.stored =
-    subst (λ (s : Stored). IsInstalled s begun.task last.1.now.stored) stored (subst (λ (task : PlainTask). IsInstalled others.1.now.stored task last.1.now.stored) written.task ended.installed) in (
+    subst (λ (s : Stored). IsInstalled s begun.task last.1.now.stored) stored (subst (λ (task : PlainTask). IsInstalled others.1.now.stored task last.1.now.stored) written.task last_one) in (
       end.0 ∙ ended.history ∙ written.history ∙ begin.2.history,
       (begun.task, begun.begun, subst (λ (run : Run). IsInstalled start.now.stored begun.task run.now.stored) (sym end.1) installed),
-      ap (λ (run : Run). run.now.flight) end.1 ∙ ended.flight,
+      ap (λ (run : Run). run.now.flights) end.1 ∙ ended.flights ∙ rest,
       ap (λ (run : Run). run.now.there) end.1 ∙ ended.gone,
     )

@@ -44,7 +44,7 @@ use Rattle.lethe_drive.proofs.Reasons.{reason_on, unreadable_told}
 
 -- the jobs behind a tick, by whether it passed the tests
 abbrev face_if : View → Bool → Face
-face_if view passed = if passed then record (face_of view) { rounds = view.rounds + 1; flight = None } else face_of view
+face_if view passed = if passed then record (face_of view) { rounds = view.rounds + 1; flights = [] } else face_of view
 
 module _ (to : ℕ) (old new : View) (face : face_of new ≡ engine.ticked_face old to) where
   pub face_ends : engine.passes old to ≡ true → face_of new ≡ face_if old true
@@ -131,7 +131,7 @@ module _ (Tells PortsFail : Type 0) (told : Tells) (to : ℕ) (config : Fields) 
   all_same : (view : View) → view ≡ old → (left : Option Going) → left ≡ there → IsAllButPort before (moment_of view s fetches_now faults_now begun left snapshots)
   all_same view same left is = subst (λ (left : Option Going). IsAllButPort before (moment_of view s fetches_now faults_now begun left snapshots)) (sym is)
       (subst (λ (view : View). IsAllButPort before (moment_of view s fetches_now faults_now begun there snapshots)) (sym same)
-      (record { stored = refl; state = refl; levels = refl; retired = refl; pins = refl; flight = refl; directory = refl; calls = refl; faults = refl; begun = refl; there = refl; snapshots = refl }))
+      (record { stored = refl; state = refl; levels = refl; retired = refl; pins = refl; flights = refl; directory = refl; calls = refl; faults = refl; begun = refl; there = refl; snapshots = refl }))
 
   known_same : (view : View) → view ≡ old → (g : History) → g ≡ h → IsKnown config g view s
   known_same view same g is = subst (λ (g : History). IsKnown config g view s) (sym is) (subst (λ (view : View). IsKnown config h view s) (sym same) known)
@@ -215,7 +215,7 @@ module _ (Tells PortsFail : Type 0) (told : Tells) (to : ℕ) (config : Fields) 
     ends : (t : Stored) → EndsRound before (later t)
     ends t =
         let is = face_ends to old new face all in
-        record { rounds = ap (λ (face : Face). face.rounds) is; flight = ap (λ (face : Face). face.flight) is; there = none; begun = refl }
+        record { rounds = ap (λ (face : Face). face.rounds) is; flights = ap (λ (face : Face). face.flights) is; there = none; begun = refl }
 
     never : {A : Type 0} → passes before to ≡ false → A
     never not = absurd (let both : true ≡ false = sym all ∙ not in cc)

@@ -10,6 +10,7 @@ use Rattle.lethe_job.specs.Tasks.{AreSound}
 use Rattle.lethe_job.specs.Works.{AreOutputs, PlainTask, inputs_in, plain_task}
 use Rattle.lethe_job.specs.declared.job.Job.{Job}
 use Rattle.lethe_job.specs.declared.made.Made.{Made}
+use Rattle.lethe_core.specs.Flights.{flying_by}
 use Rattle.lethe_core.specs.Jobs.{IsAtWork}
 use Rattle.lethe_core.specs.View.{View}
 use Rattle.lethe_drive.specs.Answers.{AreOutputsFor}
@@ -67,17 +68,17 @@ module _ {D Page Port : Type 0} {kind : Ghosts D Page Port} (Tells PortsFail : T
       told_outputs Tells (plain_task job.task.value) made (subst (λ (task : PlainTask). AreOutputs Tells task made) same its) told sound
 
   -- a job that was refused something
-  pub spoilt : (number : ℕ) → mid.round ≡ job.round → mid.refused ≡ true → Some (going_of number mid) ≡ Some (record (going_of number job) { refused = true; written = mid.written; port_faults = kind.port_faults mid.port })
-  spoilt number round refused = λ i. Some (record { number = number; round = round i; refused = refused i; task = plain_task (task i); written = mid.written; port_faults = kind.port_faults mid.port })
+  pub spoilt : (number : ℕ) → mid.number ≡ job.number → mid.round ≡ job.round → mid.refused ≡ true → Some (going_of number mid) ≡ Some (record (going_of number job) { refused = true; written = mid.written; port_faults = kind.port_faults mid.port })
+  spoilt number own round refused = λ i. Some (record { number = number; own = own i; round = round i; refused = refused i; task = plain_task (task i); written = mid.written; port_faults = kind.port_faults mid.port })
 
   -- one that goes on, with so many pages
-  pub goes_on : (number written : ℕ) → mid.round ≡ job.round → job.refused ≡ false → mid.refused ≡ false → mid.written ≡ written → Some (going_of number mid) ≡ Some (record (going_of number job) { written = written; port_faults = kind.port_faults mid.port })
-  goes_on number written round was asked pages = λ i. Some (record { number = number; round = round i; refused = (asked ∙ sym was) i; task = plain_task (task i); written = pages i; port_faults = kind.port_faults mid.port })
+  pub goes_on : (number written : ℕ) → mid.number ≡ job.number → mid.round ≡ job.round → job.refused ≡ false → mid.refused ≡ false → mid.written ≡ written → Some (going_of number mid) ≡ Some (record (going_of number job) { written = written; port_faults = kind.port_faults mid.port })
+  goes_on number written own round was asked pages = λ i. Some (record { number = number; own = own i; round = round i; refused = (asked ∙ sym was) i; task = plain_task (task i); written = pages i; port_faults = kind.port_faults mid.port })
 
   module _ (number : mid.number ≡ job.number) (written : mid.written ≡ job.written) (kept : IsSome job.made → mid.made ≡ job.made) (is : IsJob Tells mid) where
     pub still_works : (view : View) → mid.round ≡ job.round → IsAtWork Tells view job → mid.refused ≡ false → IsAtWork Tells view mid
     still_works view round works asked = record {
-      flies = record { flying = works.flies.flying; is = works.flies.is; number = (λ i. (number i).value.count) ∙ works.flies.number; task = ap plain_task task ∙ works.flies.task; round = round ∙ works.flies.round };
+      flies = record { flying = works.flies.flying; is = (λ i. flying_by (number i) view.flights) ∙ works.flies.is; task = ap plain_task task ∙ works.flies.task; round = round ∙ works.flies.round };
       asked = asked;
       job_is = is;
       count = works.count ∙ sym written;

@@ -1,5 +1,5 @@
 -- What a call of a run answers, by the moments before and behind it and the histories for which the store stands there.
-use Rattle.std.specs.Prelude.{◌≡◌, ◌⊎◌, ◌↔◌, ◌≤◌, ◌<◌, ℕ, ◌+◌, ◌-◌, Bool, true, false, List, [], ◌++◌, length, map, slice_index_or, Some, None, IsSome, Result, Ok, Err, IfErr, IfSome}
+use Rattle.std.specs.Prelude.{◌≡◌, ◌≢◌, ◌⊎◌, ◌↔◌, ◌≤◌, ◌<◌, ℕ, ◌+◌, ◌-◌, Bool, true, false, List, [], ◌∷◌, length, map, slice_index_or, Some, None, Result, Ok, Err, IfErr, IfSome}
 use Rattle.std.specs.FinMap.{insert}
 use Rattle.std.specs.Result.{result_err}
 use Rattle.lethe_advance.specs.Settled.{names_in}
@@ -28,12 +28,11 @@ use Rattle.lethe_job.specs.Works.{IsBegunIn, Merges, PlainTask, Sweeps}
 use Rattle.lethe_job.specs.declared.made.Made.{Made}
 use Rattle.lethe_job.specs.declared.made.Made.TheVariants.{Files, Left}
 use Rattle.lethe_core.specs.Asked.{Serves, behind, failure_of, refused_to}
-use Rattle.lethe_core.specs.Jobs.{with_page}
-use Rattle.lethe_core.specs.Merges.{AreFirst, AreRetiredBehind, HasNoMerge, IsInstalled, IsRoomBegun, IsRoomMadeBy, Outcome}
+use Rattle.lethe_core.specs.Merges.{AreFirst, AreRetiredBehind, HasNoMerge, IsInstalledWith, IsRoomBegun, IsRoomMadeBy, Outcome}
 use Rattle.lethe_core.specs.Merges as merges
 use Rattle.lethe_core.specs.Pinned.{AreNamed}
 use Rattle.lethe_core.specs.Reasons.{HasReason, IsShort, IsUnreadable}
-use Rattle.lethe_core.specs.View.{Flying}
+use Rattle.lethe_core.specs.Flights.{Flying, company_of, flying_by, with_page_of, with_pages_of, without}
 use Rattle.lethe_engine.specs.Refusals.{SeesRoom}
 use Rattle.lethe_drive.specs.Moments.{AreJobsSame, ArePinsSame, Going, IsAllButPort, IsPortSame, IsUntouched, Moment}
 
@@ -65,7 +64,7 @@ pub record IsChanged (call : Call) (IsNext : Stored → List Header → Record �
   pub history : g ≡ with_done h 0 call
   pub cleared : Stored
   pub outcomes : List Outcome
-  pub room : IsRoomMadeBy old.flight old.stored outcomes cleared
+  pub room : IsRoomMadeBy old.flights old.stored outcomes cleared
   pub next : Record
   pub next_is : IsNext cleared (headers_in new.levels) next
   pub stored : new.stored ≡ appended cleared next
@@ -83,7 +82,7 @@ pub record IsUnchanged (PortsFail : Type 0) (call : Call) (h : History) (old : M
   pub reason : HasReason (IsFull old × (IsShort old.state ⊎ IsShortToMerge new)) old.state old.faults new.faults why
       ⊎ (IsFull old × (old.state.stopped ≡ None) × IsUnreadable (Unit {0}) PortsFail old.port_faults new.port_faults why)
   pub untouched : SeesRoom old.state → failure_of why ≡ None → IsUntouched old new
-  pub begun : failure_of why ≡ None → IsRoomBegun old.flight old.stored new.stored
+  pub begun : failure_of why ≡ None → IsRoomBegun old.flights old.stored new.stored
 
 abbrev pub ChangeAnswers : Type 0 → Call → (Stored → List Header → Record → Type 0) → History → Moment → Result ℕ Refused → History → Moment → Type 0
 ChangeAnswers PortsFail call IsNext h old (Ok place) g new = IsChanged call IsNext h old place g new
@@ -132,16 +131,16 @@ pub record HasBegun (old : Moment) (number : ℕ) (new : Moment) : Type 0 where
   pub number_is : number ≡ old.begun
   pub task : PlainTask
   pub begun : IsBegunIn old.stored task
-  -- the store's own number of it, which counts from its opening on
   pub own : ℕ
-  pub flight : new.flight ≡ Some (record { number = own; task = task; written = [] })
-  pub there : new.there ≡ Some (record { number = number; round = old.rounds; refused = false; task = task; written = 0; port_faults = 0 })
+  pub free : old.flights ≡ []
+  pub flights : new.flights ≡ record { number = own; task = task; written = [] } ∷ []
+  pub there : new.there ≡ Some (record { number = number; own = own; round = old.rounds; refused = false; task = task; written = 0; port_faults = 0 })
   pub count : new.begun ≡ old.begun + 1
 
 -- why no job was begun
 abbrev pub IsUnbegun : Moment → Refused → Type 0
 IsUnbegun old (Stopped at) = old.state.stopped ≡ Some at
-IsUnbegun old NothingDue = (old.state.stopped ≡ None) × (IsSome old.flight ⊎ HasNoMerge old.stored)
+IsUnbegun old NothingDue = (old.state.stopped ≡ None) × ((old.flights ≢ []) ⊎ HasNoMerge old.stored)
 IsUnbegun old NoMemory = Unit {0}
 IsUnbegun old (Fault place before after) = ⊥
 IsUnbegun old (Backwards clock) = ⊥
@@ -159,7 +158,7 @@ pub record IsBegin (h : History) (old : Moment) (result : Result ℕ Refused) (g
   pub history : g ≡ h
   pub answers : BeginAnswers old result new
   pub stops : StopsIn old result
-  pub busy : old.state.stopped ≡ None → IsSome old.flight → result ≡ Err NothingDue
+  pub busy : old.state.stopped ≡ None → old.flights ≢ [] → result ≡ Err NothingDue
   pub stored : new.stored ≡ old.stored
   pub state : new.state ≡ old.state
   pub levels : new.levels ≡ old.levels
@@ -189,13 +188,13 @@ pub record GoesOn (going : Going) (written : ℕ) (new : Moment) : Type 0 where
 -- the next page of the outputs was written, under the next number, and is the one object that came
 pub record HasWritten (old : Moment) (going : Going) (new : Moment) : Type 0 where
   pub flying : Flying
-  pub flies : old.flight ≡ Some flying
+  pub flies : flying_by going.own old.flights ≡ Some flying
   pub made : Made
   pub outputs : AreOutputsFor going.task made
   pub left : length flying.written < length (pages_of made)
   pub bytes : List ℕ
   pub next : bytes ≡ slice_index_or (pages_of made) (length flying.written) []
-  pub flight : new.flight ≡ Some (with_page flying (page_name old.state.next, bytes))
+  pub flights : new.flights ≡ with_page_of going.own (page_name old.state.next, bytes) old.flights
   pub directory : new.directory ≡ insert old.directory (page_name old.state.next) bytes
   pub stored : new.stored ≡ old.stored
   pub goes_on : GoesOn going (going.written + 1) new
@@ -203,11 +202,11 @@ pub record HasWritten (old : Moment) (going : Going) (new : Moment) : Type 0 whe
 -- none was left, and nothing was done
 pub record HasNoPage (old : Moment) (going : Going) (new : Moment) : Type 0 where
   pub flying : Flying
-  pub flies : old.flight ≡ Some flying
+  pub flies : flying_by going.own old.flights ≡ Some flying
   pub made : Made
   pub outputs : AreOutputsFor going.task made
   pub all : length flying.written ≡ length (pages_of made)
-  pub flight : new.flight ≡ old.flight
+  pub flights : new.flights ≡ old.flights
   pub stored : new.stored ≡ old.stored
   pub state : new.state ≡ old.state
   pub calls : new.calls ≡ old.calls
@@ -217,7 +216,7 @@ pub record HasNoPage (old : Moment) (going : Going) (new : Moment) : Type 0 wher
 pub record IsUnwritten (PortsFail : Type 0) (old : Moment) (going : Going) (why : Refused) (new : Moment) : Type 0 where
   pub spoilt : IsSpoilt going new
   pub reason : IsJobRefusal PortsFail (max_place ≤ old.state.next) old going spoilt.port_faults new why
-  pub flight : new.flight ≡ old.flight
+  pub flights : new.flights ≡ old.flights
   pub untouched : failure_of why ≡ None → IsUntouched old new
 
 abbrev pub WriteAnswers : Type 0 → Moment → Going → Result Bool Refused → Moment → Type 0
@@ -240,10 +239,10 @@ IsShortToInstall going new = (max_place ≤ new.state.next) ⊎ ((made : Made) �
 -- what is stored is the outcome of its task, whose new pages begin with those that the job had written, of the pages that it left none is retired but those that a held pin names,
 -- and it has ended
 pub record HasInstalled (old : Moment) (going : Going) (new : Moment) : Type 0 where
-  pub installed : IsInstalled old.stored going.task new.stored
-  pub first : IfSome old.flight (λ flying. AreFirst (names_in flying.written) old.stored new.stored)
+  pub installed : IsInstalledWith (company_of (without going.own old.flights)) old.stored going.task new.stored
+  pub first : IfSome (flying_by going.own old.flights) (λ flying. AreFirst (names_in flying.written) old.stored new.stored)
   pub retired : AreNamed old.pins.pins new.retired
-  pub flight : new.flight ≡ None
+  pub flights : new.flights ≡ without going.own old.flights
   pub there : new.there ≡ None
 
 -- It was refused: the job can only be given up, and more of its pages may have been written. What is stored is as it was, unless the disk failed.
@@ -251,9 +250,9 @@ pub record IsUninstalled (PortsFail : Type 0) (old : Moment) (going : Going) (wh
   pub spoilt : IsSpoilt going new
   pub reason : IsJobRefusal PortsFail (IsShortToInstall going new) old going spoilt.port_faults new why
   pub flying : Flying
-  pub flies : old.flight ≡ Some flying
+  pub flies : flying_by going.own old.flights ≡ Some flying
   pub pages : List (Name × List ℕ)
-  pub flight : new.flight ≡ Some (record flying { written = flying.written ++ pages })
+  pub flights : new.flights ≡ with_pages_of going.own pages old.flights
   pub retired : new.retired ≡ old.retired
   pub stored : failure_of why ≡ None → new.stored ≡ old.stored
 
@@ -288,8 +287,8 @@ pub record IsCancel (h : History) (old : Moment) (result : Result (Unit {0}) Ref
   pub why : IfErr result (IsKeptUp old new)
   pub stops : StopsIn old result
   pub there : new.there ≡ None
-  pub free : (old.state.stopped ≡ None → old.state.count < max_place) → new.flight ≡ None
-  pub last : old.state.stopped ≡ None → old.state.count ≡ max_place → (result ≡ Ok tt) × IsUntouched old new × (new.flight ≡ old.flight)
+  pub free : (old.state.stopped ≡ None → old.state.count < max_place) → IfSome old.there (λ going. new.flights ≡ without going.own old.flights)
+  pub last : old.state.stopped ≡ None → old.state.count ≡ max_place → (result ≡ Ok tt) × IsUntouched old new × (new.flights ≡ old.flights)
   pub stored : (done : Unit {0}) → result ≡ Ok done → new.stored ≡ old.stored
   pub untouched : IfErr result (λ why. failure_of why ≡ None → IsUntouched old new)
   pub retired : new.retired ≡ old.retired

@@ -15,7 +15,8 @@ use Rattle.lethe_core.specs.Asked.{failure_of}
 use Rattle.lethe_core.specs.Reasons.{HasReason, IsUnreadable}
 use Rattle.lethe_core.specs.Jobs.{IsAtWork, IsInFlight}
 use Rattle.lethe_core.specs.Pinned.{AreKeptBy, AreRetiredFrom}
-use Rattle.lethe_core.specs.View.{Flying, View}
+use Rattle.lethe_core.specs.Flights.{Flying, flying_by, with_pages_of}
+use Rattle.lethe_core.specs.View.{View}
 use Rattle.lethe_drive.specs.Moments.{IsMomentOf, Moment}
 use Rattle.lethe_drive.specs.Past.{Run}
 use Rattle.lethe_drive.specs.Pins.{all_released}
@@ -55,12 +56,12 @@ pages_left_of (Some pages) written = pages - written
 abbrev pub pages_left : {D Page Port : Type 0} {kind : Ghosts D Page Port} → Job D Page Port kind → ℕ
 pages_left job = pages_left_of (option_map (λ made. length (pages_of made)) job.made) job.written
 
--- the job in flight has more pages
-pub record IsWrittenOn (old new : Option Flying) : Type 0 where
+-- the job of a number, which is in flight, has more pages, and the others are as they were
+pub record IsWrittenOn (number : ℕ) (old new : List Flying) : Type 0 where
   pub flying : Flying
-  pub flies : old ≡ Some flying
+  pub flies : flying_by number old ≡ Some flying
   pub pages : List (Name × List ℕ)
-  pub is : new ≡ Some (record flying { written = flying.written ++ pages })
+  pub is : new ≡ with_pages_of number pages old
 
 -- Each object that is named by a pin that is held before and by one behind is as it was, byte for byte; and each page that is retired behind was so before, or is named by a held pin.
 pub record IsPinnedKept (old new : View) : Type 0 where
@@ -68,11 +69,11 @@ pub record IsPinnedKept (old new : View) : Type 0 where
   pub retired : AreRetiredFrom old.pins.pins old.retired new.retired
 
 -- what is stored stays while pages of a job are written, and the same pins are held
-pub record IsWritingOn (PortsFail : Type 0) (old new : View) (before now : ℕ) (s t : Stored) (result : Result (Unit {0}) Refused) : Type 0 where
+pub record IsWritingOn (PortsFail : Type 0) (number : ℕ) (old new : View) (before now : ℕ) (s t : Stored) (result : Result (Unit {0}) Refused) : Type 0 where
   pub done : OnOk result (t ≡ s)
   pub why : IfErr result (λ why. ((b : ℕ) × (n : ℕ) × (old.faults ≤ b) × (n ≤ new.faults) × HasReason (max_place ≤ new.state.next) old.state b n why)
       ⊎ IsUnreadable (Unit {0}) PortsFail before now why)
   pub kept : IfErr result (λ why. failure_of why ≡ None → t ≡ s)
-  pub flight : IsWrittenOn old.flight new.flight
+  pub flights : IsWrittenOn number old.flights new.flights
   pub retired : new.retired ≡ old.retired
   pub pins : new.pins ≡ old.pins

@@ -1,5 +1,5 @@
 -- What is told of a store between two calls of a run, as plain data.
-use Rattle.std.specs.Prelude.{◌≡◌, ◌⊎◌, ◌≤◌, ℕ, Bool, false, List, [], ◌∷◌, ◌++◌, length, map, Contains, Option, Some, None, option_map, IfSome, IsTrue}
+use Rattle.std.specs.Prelude.{◌≡◌, ◌⊎◌, ◌≤◌, ℕ, Bool, false, List, [], ◌∷◌, ◌++◌, length, map, All, Contains, Option, Some, None, option_map, IfSome, IsTrue}
 use Rattle.lethe_base.specs.History.{AreDone, Change, History, IsLegal}
 use Rattle.lethe_base.specs.declared.call.Did.TheVariants.{Failed}
 use Rattle.lethe_base.specs.declared.config.Fields.{Fields}
@@ -21,13 +21,15 @@ use Rattle.lethe_job.specs.Works.{PlainTask, plain_task}
 use Rattle.lethe_job.specs.declared.job.Job.{Job}
 use Rattle.lethe_core.specs.Pinned.{AreKeptBy, AreRetiredFrom, pages_in}
 use Rattle.lethe_core.specs.Running.{Holds, IsTasked}
-use Rattle.lethe_core.specs.View.{Flying, View, beside_at}
+use Rattle.lethe_core.specs.Flights.{Flying, flying_by}
+use Rattle.lethe_core.specs.View.{View, beside_at}
 use Rattle.lethe_drive.specs.declared.jobs.Jobs.{Jobs}
 
--- a job that was begun and hasn't ended: its number, the round in which it was begun, whether one of its calls was refused, its task, how many of its pages are written, and
+-- a job that was begun and hasn't ended: its number in the run, the store's own number of it, which counts from its opening on, the round in which it was begun, whether one of its calls was refused, its task, how many of its pages are written, and
 -- its port's count of faults
 pub record Going : Type 0 where
   pub number : ℕ
+  pub own : ℕ
   pub round : ℕ
   pub refused : Bool
   pub task : PlainTask
@@ -43,7 +45,7 @@ pub record Moment : Type 0 where
   pub levels : List (List Parts)
   pub retired : List Name
   pub pins : Held
-  pub flight : Option Flying
+  pub flights : List Flying
   pub directory : Directory
   pub calls : ℕ
   pub faults : ℕ
@@ -68,15 +70,15 @@ IsStoppedBy h (Some at) =
     (before : History) × (change : Change) × (h ≡ before ++ change ∷ []) × AreDone before × ((told_before : ℕ) × (told_now : ℕ) × (change.did ≡ Failed told_before told_now)) × (at ≡ length h)
 
 -- A job that hasn't ended is in flight, with its task. Unless one of its calls was refused its pages are those that it has written.
-pub record IsGoing (flight : Option Flying) (going : Going) : Type 0 where
+pub record IsGoing (flights : List Flying) (going : Going) : Type 0 where
   pub flying : Flying
-  pub flies : flight ≡ Some flying
+  pub flies : flying_by going.own flights ≡ Some flying
   pub task : flying.task ≡ going.task
   pub pages : going.refused ≡ false → length flying.written ≡ going.written
 
 -- A store of the configuration whose calls make the history. What is stored stands for that without what failed, and the store remembers it. Unless something has failed the
--- directory has what is stored, the retired pages and those of the job in flight, and nothing else, each page that a held pin names is one of a stored file or retired, and the job
--- merges or sweeps files that are stored.
+-- directory has what is stored, the retired pages and those of the jobs in flight, and nothing else, each page that a held pin names is one of a stored file or retired, and each
+-- job merges or sweeps files that are stored.
 pub record IsMomentOf (config : Fields) (h : History) (m : Moment) : Type 0 where
   pub legal : IsLegal h
   pub count : m.state.count ≡ length h
@@ -86,14 +88,15 @@ pub record IsMomentOf (config : Fields) (h : History) (m : Moment) : Type 0 wher
   pub remembers : Remembers m.stored m.state m.levels
   pub current : m.state.stopped ≡ None → IsCurrent m.stored m.state
   pub encodes : m.state.stopped ≡ None → Encodes m.directory m.stored
-  pub only : m.state.stopped ≡ None → HasOnly m.stored (beside_at m.directory m.retired m.flight) m.directory
+  pub only : m.state.stopped ≡ None → HasOnly m.stored (beside_at m.directory m.retired m.flights) m.directory
   pub kept : m.state.stopped ≡ None → (name : Name) → IsTrue (is_named m.pins.pins name) → Contains (pages_in m.stored.files) name ⊎ Contains m.retired name
-  pub tasked : m.state.stopped ≡ None → IfSome m.flight (IsTasked m.stored)
-  pub going : IfSome m.there (IsGoing m.flight)
+  pub tasked : m.state.stopped ≡ None → All (IsTasked m.stored) m.flights
+  pub going : IfSome m.there (IsGoing m.flights)
 
 abbrev pub going_of : {D Page Port : Type 0} {kind : Ghosts D Page Port} → ℕ → Job D Page Port kind → Going
 going_of {kind = kind} number job = record {
   number = number;
+  own = job.number;
   round = job.round;
   refused = job.refused;
   task = plain_task job.task.value;
@@ -116,7 +119,7 @@ moment_of view stored fetches port_faults begun there snapshots = record {
   levels = view.levels;
   retired = view.retired;
   pins = view.pins;
-  flight = view.flight;
+  flights = view.flights;
   directory = view.disk.directory;
   calls = view.disk.moment;
   faults = view.faults;
@@ -135,7 +138,7 @@ pub record IsAllButPort (old new : Moment) : Type 0 where
   pub levels : new.levels ≡ old.levels
   pub retired : new.retired ≡ old.retired
   pub pins : new.pins ≡ old.pins
-  pub flight : new.flight ≡ old.flight
+  pub flights : new.flights ≡ old.flights
   pub directory : new.directory ≡ old.directory
   pub calls : new.calls ≡ old.calls
   pub faults : new.faults ≡ old.faults
@@ -162,7 +165,7 @@ pub record IsLater (old new : Moment) : Type 0 where
 
 -- the jobs are as they were
 pub record AreJobsSame (old new : Moment) : Type 0 where
-  pub flight : new.flight ≡ old.flight
+  pub flights : new.flights ≡ old.flights
   pub begun : new.begun ≡ old.begun
   pub there : new.there ≡ old.there
 

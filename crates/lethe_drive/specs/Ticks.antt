@@ -1,5 +1,5 @@
 -- What a tick answers in a run of events.
-use Rattle.std.specs.Prelude.{◌≡◌, ◌↔◌, ◌⊎◌, ◌≤◌, ◌<◌, ℕ, ◌+◌, Bool, true, false, ◌&&◌, is_none, nat_le, nat_lt, List, length, Some, None, IfSome, Result, Ok, Err}
+use Rattle.std.specs.Prelude.{◌≡◌, ◌↔◌, ◌⊎◌, ◌≤◌, ◌<◌, ℕ, ◌+◌, Bool, true, false, ◌&&◌, is_none, nat_le, nat_lt, List, [], length, Some, None, IfSome, Result, Ok, Err}
 use Rattle.lethe_base.specs.History.{History}
 use Rattle.lethe_base.specs.Limits.{max_place}
 use Rattle.lethe_base.specs.declared.call.Call.TheVariants as call
@@ -89,7 +89,7 @@ TickAnswers PortsFail to h old (Err why) g new = IsUnticked PortsFail to h old w
 -- a round has ended, and its job was given up
 pub record EndsRound (old new : Moment) : Type 0 where
   pub rounds : new.rounds ≡ old.rounds + 1
-  pub flight : new.flight ≡ None
+  pub flights : new.flights ≡ []
   pub there : new.there ≡ None
   pub begun : new.begun ≡ old.begun
 

@@ -37,5 +37,5 @@ pub fn puts_are_read<D: Disk>()
 pub fn a_job_has_its_outcome<D: Disk>()
     ensures { (config : Fields) (h g : History) (start finish : Run) (number : ℕ) (wrote : Bool)
         → Steps D.ports_fail config h start (event.Begin ∷ event.WriteOut number ∷ event.Install number ∷ []) (reply.Job number ∷ reply.Flag wrote ∷ reply.Unit ∷ []) g finish
-        → (g ≡ h) × ((task : PlainTask) × IsBegunIn start.now.stored task × IsInstalled start.now.stored task finish.now.stored) × (finish.now.flight ≡ None) × (finish.now.there ≡ None) }
+        → (g ≡ h) × ((task : PlainTask) × IsBegunIn start.now.stored task × IsInstalled start.now.stored task finish.now.stored) × (finish.now.flights ≡ []) × (finish.now.there ≡ None) }
 {}

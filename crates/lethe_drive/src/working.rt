@@ -104,6 +104,7 @@ fn write_next<D: Disk>(
     ensures refused { OnErr result (job.new.refused ≡ true) }
     ensures drawn { OnErr result (engine.new.core.state.next ≡ engine.old.core.state.next) }
     ensures task { job.new.task.value ≡ job.old.task.value }
+    ensures number { job.new.number ≡ job.old.number }
     ensures round { job.new.round ≡ job.old.round }
     // Once its outputs are made nothing is read.
     ensures read { IsSome job.old.made → (before now : ℕ) → IsErrOf result (ReadFault before now) → ⊥ }
@@ -211,10 +212,11 @@ fn write_rest<D: Disk>(
     ensures whole { OnOk result (IsWhole job.new) }
     ensures refused { OnErr result (job.new.refused ≡ true) }
     ensures task { job.new.task.value ≡ job.old.task.value }
+    ensures number { job.new.number ≡ job.old.number }
     ensures round { job.new.round ≡ job.old.round }
     ensures step { D.tells → (config : Fields) (opened : Opened) (h : History) (answered : List Certificate) → StandsFor config opened h (view_of engine.old.core) answered → (s : Stored) → IsKnown config h (view_of engine.old.core) s
         → (t : Stored) × IsKnown config (behind h 0 (Serves Work) (result_err result)) (view_of engine.new.core) t × StandsFor config opened (behind h 0 (Serves Work) (result_err result)) (view_of engine.new.core) answered
-        × IsWritingOn D.ports_fail (view_of engine.old.core) (view_of engine.new.core) (D.port_faults job.old.port) (D.port_faults job.new.port) s t result }
+        × IsWritingOn D.ports_fail job.old.number (view_of engine.old.core) (view_of engine.new.core) (D.port_faults job.old.port) (D.port_faults job.new.port) s t result }
     ensures rounds { engine.new.core.begun.rounds ≡ engine.old.core.begun.rounds }
     ensures pins { engine.new.core.pins ≡ engine.old.core.pins }
     ensures pinned { D.tells → IsPinnedKept (view_of engine.old.core) (view_of engine.new.core) }

@@ -14,18 +14,20 @@ use Rattle.lethe_disk.specs.declared.disk.Disk.{Ghosts}
 use Rattle.lethe_stored.specs.Stored.{Stored}
 use Rattle.lethe_advance.specs.Settled.{AreDrawn, names_in}
 use Rattle.lethe_job.proofs.Zips.{zip_cut, zip_joined}
-use Rattle.lethe_core.specs.Merges.{AreFirst, IsInstalled}
+use Rattle.lethe_core.specs.Flights.{AreFlights, Flying, company_of, flying_by, with_pages, without}
+use Rattle.lethe_core.specs.Merges.{AreFirst, IsInstalledWith}
 use Rattle.lethe_job.specs.Jobs.{next_bytes}
 use Rattle.lethe_job.specs.MadeOf.{numbers_in, pages_of, written_of}
 use Rattle.lethe_job.specs.Works.{AreOutputs, PlainTask, plain_task}
 use Rattle.lethe_job.specs.declared.job.Job.{Job}
 use Rattle.lethe_job.specs.declared.job.Piece.{Piece}
 use Rattle.lethe_job.specs.declared.made.Made.{Made}
-use Rattle.lethe_core.specs.Jobs.{AreOutputsOf, IsAtWork, with_page}
-use Rattle.lethe_core.specs.Running.{Holds, IsSound}
-use Rattle.lethe_core.specs.StandsNow.{IsOpenOrStopped, StandsNow}
-use Rattle.lethe_core.specs.View.{Face, Flying, View, face_of, loose_in}
-use Rattle.lethe_core.proofs.Beside.{drawn_front, none_drawn}
+use Rattle.lethe_core.specs.Jobs.{AreOutputsOf, IsAtWork}
+use Rattle.lethe_core.specs.Running.{Holds, IsFlying, IsSound}
+use Rattle.lethe_core.specs.StandsNow.{IsCounted, IsOpenOrStopped, StandsNow}
+use Rattle.lethe_core.specs.View.{Face, View, face_of, loose_in}
+use Rattle.lethe_core.proofs.Flying.{all_without, flights_without, flying_pages, without_none}
+use Rattle.lethe_core.proofs.Removed.{others_left_of}
 use Rattle.lethe_engine.specs.Jobs.{IsNextPage, IsShortToInstall, written_face}
 
 -- the value, where there is one
@@ -61,7 +63,7 @@ written_more made written name at count left is =
 module _ {D Page Port : Type 0} {kind : Ghosts D Page Port} (Tells : Type 0) (old : View) (job : Job D Page Port kind) (works : IsAtWork Tells old job) where
   module _ (piece : Piece) (next : IsNextPage job piece) where
     -- there is the page that counts as written
-    pub one_more : (new : View) (name : Name) (result : Result (Unit {0}) Refused) → face_of new ≡ written_face (face_of old) (name, next_bytes job) result → OnOk result (IsAtWork Tells new (record job { written = job.written + 1 }))
+    pub one_more : (new : View) (name : Name) (result : Result (Unit {0}) Refused) → face_of new ≡ written_face job.number (face_of old) (name, next_bytes job) result → OnOk result (IsAtWork Tells new (record job { written = job.written + 1 }))
     one_more new name (Err why) is = tt
     one_more new name (Ok done) is =
         let there = some_there (λ (made : Made). job.written < length (pages_of made)) job.made next.made next.left in
@@ -70,15 +72,15 @@ module _ {D Page Port : Type 0} {kind : Ghosts D Page Port} (Tells : Type 0) (ol
         let page : Name × List ℕ = (name, get_or (pages_of made) job.written []) in
         let bytes : next_bytes job ≡ get_or (pages_of made) job.written [] =
         ap (λ (o : Option Made). option_map_or (λ (made : Made). get_or (pages_of made) job.written []) o []) there.1 in
-        let flight : new.flight ≡ Some (with_page flying page) =
-        ap (λ (face : Face). face.flight) is ∙ ap (option_map (λ (flying : Flying). with_page flying (name, next_bytes job))) works.flies.is ∙ ap (λ (b : List ℕ). Some (with_page flying (name, b))) bytes in
+        let flies : flying_by job.number new.flights ≡ Some (with_pages flying (page ∷ [])) =
+        ap (λ (face : Face). flying_by job.number face.flights) is ∙ flying_pages job.number ((name, next_bytes job) ∷ []) old.flights
+        ∙ ap (option_map (λ (flying : Flying). with_pages flying ((name, next_bytes job) ∷ []))) works.flies.is ∙ ap (λ (b : List ℕ). Some (with_pages flying ((name, b) ∷ []))) bytes in
         let was : flying.written ≡ written_of (names_in flying.written) made = some_at (λ (made : Made). flying.written ≡ written_of (names_in flying.written) made) job.made made there.1 works.pages in
         let count = works.count in
         record {
           flies = record {
-            flying = with_page flying page;
-            is = flight;
-            number = works.flies.number;
+            flying = with_pages flying (page ∷ []);
+            is = flies;
             task = works.flies.task;
             round = works.flies.round ∙ sym (ap (λ (face : Face). face.rounds) is);
           };
@@ -94,19 +96,22 @@ module _ {D Page Port : Type 0} {kind : Ghosts D Page Port} (Tells : Type 0) (ol
         }
 
   -- what was installed is the outcome of its task
-  pub outcome_of : (s : Stored) (new : View) → IfSome old.flight (λ flying. (t : Stored) × IsInstalled s flying.task t × Holds new t × AreFirst (names_in flying.written) s t)
-      → (t : Stored) × IsInstalled s (plain_task job.task.value) t × Holds new t × IfSome old.flight (λ flying. AreFirst (names_in flying.written) s t)
+  pub outcome_of : (s : Stored) (new : View)
+      → IfSome (flying_by job.number old.flights) (λ flying. (t : Stored) × IsInstalledWith (company_of (without job.number old.flights)) s flying.task t × Holds new t × AreFirst (names_in flying.written) s t)
+      → (t : Stored) × IsInstalledWith (company_of (without job.number old.flights)) s (plain_task job.task.value) t × Holds new t
+      × IfSome (flying_by job.number old.flights) (λ flying. AreFirst (names_in flying.written) s t)
   outcome_of s new is =
-      let found = some_at (λ (flying : Flying). (t : Stored) × IsInstalled s flying.task t × Holds new t × AreFirst (names_in flying.written) s t) old.flight works.flies.flying works.flies.is is in (
+      let company = company_of (without job.number old.flights) in
+      let found = some_at (λ (flying : Flying). (t : Stored) × IsInstalledWith company s flying.task t × Holds new t × AreFirst (names_in flying.written) s t) (flying_by job.number old.flights) works.flies.flying works.flies.is is in (
         found.0,
-        subst (λ (task : PlainTask). IsInstalled s task found.0) (sym works.flies.task) found.1,
+        subst (λ (task : PlainTask). IsInstalledWith company s task found.0) (sym works.flies.task) found.1,
         found.2,
-        subst (λ (flight : Option Flying). IfSome flight (λ flying. AreFirst (names_in flying.written) s found.0)) (sym works.flies.is) found.3,
+        subst (λ (flying : Option Flying). IfSome flying (λ flying. AreFirst (names_in flying.written) s found.0)) (sym works.flies.is) found.3,
       )
 
   module _ (made : Made) (is : job.made ≡ Some made) where
     -- the job in flight has what it made
-    pub outputs_flying : IfSome old.flight (λ flying. AreOutputsOf Tells flying made)
+    pub outputs_flying : IfSome (flying_by job.number old.flights) (λ flying. AreOutputsOf Tells flying made)
     outputs_flying =
         let flying : Flying = works.flies.flying in
         subst (λ o. IfSome o (λ flying. AreOutputsOf Tells flying made)) (sym works.flies.is) (record {
@@ -116,18 +121,18 @@ module _ {D Page Port : Type 0} {kind : Ghosts D Page Port} (Tells : Type 0) (ol
         })
 
     -- the numbers that it is short of are the job's
-    pub short_flying : IfSome old.flight (λ flying. max_place ≤ old.state.next + (numbers_in made - length flying.written)) → IsShortToInstall old job
+    pub short_flying : IfSome (flying_by job.number old.flights) (λ flying. max_place ≤ old.state.next + (numbers_in made - length flying.written)) → IsShortToInstall old job
     short_flying short =
         let flying : Flying = works.flies.flying in
-        let few = some_at (λ (flying : Flying). max_place ≤ old.state.next + (numbers_in made - length flying.written)) old.flight flying works.flies.is short in
+        let few = some_at (λ (flying : Flying). max_place ≤ old.state.next + (numbers_in made - length flying.written)) (flying_by job.number old.flights) flying works.flies.is short in
         subst (λ o. IfSome o (λ (made : Made). max_place ≤ old.state.next + (numbers_in made - job.written))) (sym is)
         (subst (λ n. max_place ≤ old.state.next + (numbers_in made - n)) works.count few)
 
--- A store that was stopped forgets its job
+-- A store that was stopped forgets a job
 
-module _ (view : View) (place : ℕ) (stopped : view.state.stopped ≡ Some place) where
+module _ (view : View) (number place : ℕ) (stopped : view.state.stopped ≡ Some place) where
   abbrev free : View
-  free = record view { flight = None }
+  free = record view { flights = without number view.flights }
 
   left_stopped : (config : Fields) (h : History) (s : Stored) → IsOpenOrStopped config view h s view.state.stopped → IsOpenOrStopped config free h s view.state.stopped
   left_stopped config h s held = subst (IsOpenOrStopped config free h s) (sym stopped) (subst (IsOpenOrStopped config view h s) stopped held)
@@ -141,19 +146,28 @@ module _ (view : View) (place : ℕ) (stopped : view.state.stopped ≡ Some plac
     config_is = stands.config_is;
     stands = stands.stands;
     held = left_stopped config h stands.stored stands.held;
-    counted = tt;
+    counted = all_without (λ (flying : Flying). IsCounted flying.task) number view.flights stands.counted;
     recorded = stands.recorded;
     timely = stands.timely;
   }
+
+  -- the names of fewer pages
+  fewer : (front : List Name) (next : ℕ) → AreFlights view.flights → AreDrawn next (front ++ names_in (loose_in view.flights)) → AreDrawn next (front ++ names_in (loose_in (without number view.flights)))
+  fewer front next are drawn = by (flying_by number view.flights) refl
+    where
+      by : (found : Option Flying) → flying_by number view.flights ≡ found → AreDrawn next (front ++ names_in (loose_in (without number view.flights)))
+      by None none = subst (λ (flights : List Flying). AreDrawn next (front ++ names_in (loose_in flights))) (sym (without_none number view.flights none)) drawn
+      by (Some flying) is = (others_left_of number view.flights flying are is).drawn next front drawn
 
   pub forgets_sound : (Tells : Type 0) → IsSound Tells view → IsSound Tells free
   forgets_sound Tells sound = record {
     writable = sound.writable;
     small = sound.small;
     count = sound.count;
-    flies = tt;
-    loose = none_drawn view.state.next;
-    drawn = λ told. subst (AreDrawn view.state.next) (sym (append-nil view.retired)) (drawn_front view.state.next view.retired (names_in (loose_in view.flight)) (sound.drawn told));
+    flights = flights_without number view.flights sound.flights;
+    flies = all_without (IsFlying view.state) number view.flights sound.flies;
+    loose = fewer [] view.state.next sound.flights sound.loose;
+    drawn = λ told. fewer view.retired view.state.next sound.flights (sound.drawn told);
     pins = sound.pins;
     pages = sound.pages;
     held = λ told. let held = sound.held told in (held.0, held.1, λ runs. absurd (let clash : Some place ≡ None = sym stopped ∙ runs in cc));

@@ -87,12 +87,12 @@ idle_moments P old new idle next run = let same = idle.moment in record {
 }
 
 -- of the steps of a change none may have been done
-none_begun : (call : Call) (flight : Option Flying) (s : Stored) → IsBegun call flight s s
-none_begun (Put key dkey value) flight s = inl refl
-none_begun (Delete key) flight s = inl refl
-none_begun (Erase range) flight s = inl refl
-none_begun (Tick to) flight s = inl (inl refl)
-none_begun Work flight s = refl
+none_begun : (call : Call) (flights : List Flying) (s : Stored) → IsBegun call flights s s
+none_begun (Put key dkey value) flights s = inl refl
+none_begun (Delete key) flights s = inl refl
+none_begun (Erase range) flights s = inl refl
+none_begun (Tick to) flights s = inl (inl refl)
+none_begun Work flights s = refl
 
 -- nothing was done at all
 pub itself_answers : (Tells : Type 0) (asked : Asked) (why : Option Refused) (view : View) → IsSound Tells view → IsNoChange asked why → Answers Tells asked why (face_of view) view view
@@ -119,7 +119,7 @@ itself_answers Tells asked why view sound none = record {
 
     undone : (asked : Asked) (why : Option Refused) → IfSome why (IsRefused Tells asked view view)
     undone asked None = tt
-    undone (Makes call) (Some why) = ((λ ready not. as_itself Tells view), λ not told s holds. (s, none_begun call view.flight s, holds))
+    undone (Makes call) (Some why) = ((λ ready not. as_itself Tells view), λ not told s holds. (s, none_begun call view.flights s, holds))
     undone (Serves call) (Some why) = λ not. as_itself Tells view
 
 -- work or a look that left the disk as it was
@@ -222,15 +222,15 @@ module _ (Tells : Type 0) (call : Call) (works : call ≡ Work → ⊥) (old : V
 
   -- room couldn't be made
   pub unroomed_answers : (PortsFail : Type 0) (first last : ℕ) (new : View) (why : Refused) → Keeps Tells old new (Some why) → HasReasonOfChange Tells PortsFail old new first last why → (IsReadyFor call old.state → ⊥)
-      → IsDoneInPart Tells (IsBegun call old.flight) old new why → Answers Tells (Makes call) (Some why) (face_of new) old new
+      → IsDoneInPart Tells (IsBegun call old.flights) old new why → Answers Tells (Makes call) (Some why) (face_of new) old new
   unroomed_answers PortsFail first last new why keeps reason full partly =
       made_answers new (Some why) keeps.sound keeps.count keeps.stopped (λ told config h caller before. keeps.stands told config h before caller call)
       (λ told config h caller before. moments_or config h (written_by caller (Makes call) (Some why)) old.state.next old.disk new.disk (keeps.any_moment told config h before)) keeps.numbers keeps.drawn keeps.faults
       (changes_told Tells PortsFail old new first last why reason) ((λ ready. absurd (full ready)), partly) keeps.retired keeps.pinned
 
   -- room was made, and then the record was appended, or wasn't
-  module _ (mid new : View) (why : Option Refused) (room : Keeps Tells old mid None) (made : Tells → (s : Stored) → Holds old s → (t : Stored) × (outcomes : List Outcome) × IsRoomMadeBy old.flight s outcomes t × Holds mid t)
-      (begun : (s t : Stored) → IsRoomBegun old.flight s t → IsBegun call old.flight s t) (same : IsReadyFor call old.state → mid ≡ old) (face : face_of new ≡ face_of mid) (sound : IsSound Tells new)
+  module _ (mid new : View) (why : Option Refused) (room : Keeps Tells old mid None) (made : Tells → (s : Stored) → Holds old s → (t : Stored) × (outcomes : List Outcome) × IsRoomMadeBy old.flights s outcomes t × Holds mid t)
+      (begun : (s t : Stored) → IsRoomBegun old.flights s t → IsBegun call old.flights s t) (same : IsReadyFor call old.state → mid ≡ old) (face : face_of new ≡ face_of mid) (sound : IsSound Tells new)
       (count : new.state.count ≡ counted (Makes call) why mid.state.count) (stopped : new.state.stopped ≡ stopped_by why mid.state.stopped)
       (reason : IfSome why (HasReason ⊥ mid.state old.faults new.faults)) (undone : IfSome why (IsUndone Tells mid new)) (numbers : Tells → new.state.next + mid.disk.moment ≤ mid.state.next + new.disk.moment) (drawn : mid.state.next ≤ new.state.next)
       (faults : mid.faults ≤ new.faults) (retired : new.retired ≡ mid.retired) (pins : new.pins ≡ mid.pins) (kept : Tells → AreKept mid.pins.pins mid.disk.directory new.disk.directory) where
@@ -240,7 +240,7 @@ module _ (Tells : Type 0) (call : Call) (works : call ≡ Work → ⊥) (old : V
       (λ ready. subst (λ view. IsUndone Tells view new why) (same ready) undone),
       λ none told s holds.
           let all = made told s holds in
-          (all.0, begun s all.0 (room_begun old.flight s all.1 all.0 all.2), before_holds Tells told mid new all.0 face pins (undone none) all.3),
+          (all.0, begun s all.0 (room_begun old.flights s all.1 all.0 all.2), before_holds Tells told mid new all.0 face pins (undone none) all.3),
     )
 
     pub recorded_answers : (Tells → (config : Fields) (h : History) (caller : ℕ) → StandsNow config h mid → StandsNow config (behind h caller (Makes call) why) new)

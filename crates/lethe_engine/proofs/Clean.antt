@@ -20,6 +20,7 @@ use Rattle.lethe_clean.proofs.Spelled.{stored_clean}
 use Rattle.lethe_core.specs.Pinned.{IsPageUntil}
 use Rattle.lethe_core.specs.StandsNow.{StandsNow}
 use Rattle.lethe_core.specs.View.{View, beside_in, loose_in, named_in}
+use Rattle.lethe_core.proofs.Copying.{loose_copied}
 use Rattle.lethe_core.proofs.Standing.{stands_for, stands_holds}
 
 -- a page of which nothing is overdue before the next time isn't overdue now
@@ -47,7 +48,7 @@ now_clean config h view pages stands runs =
     let retired : All Fine (named_in d view.retired) = All-map Fine (λ (name : Name). (name, content d name)) view.retired (all_from (λ (name : Name). Fine (name, content d name)) view.retired (λ name there.
     inr (until_timely threshold (after h).clock h name (content d name) (All-contains (λ (name : Name). name.kind ≡ Page) view.retired name pages there)
     (All-contains (λ (name : Name). IsPageUntil threshold ((after h).clock + 1) h (content d name)) view.retired name left there)))) in
-    let job : All Fine (loose_in view.flight) = All-weaker (IsCopied s) Fine (λ named copied. inl copied) (loose_in view.flight) running.copied in
+    let job : All Fine (loose_in view.flights) = All-weaker (IsCopied s) Fine (λ named copied. inl copied) (loose_in view.flights) (loose_copied view s running holds.remembers.coherent) in
     subst (λ n. IsClean n d h (after h).clock) same
     (stored_clean h s holds.remembers.coherent (stands_for config h view stands runs) (beside_in view) d running.settled.encodes running.only running.untorn
-    (All-append Fine (named_in d view.retired) (loose_in view.flight) retired job))
+    (All-append Fine (named_in d view.retired) (loose_in view.flights) retired job))

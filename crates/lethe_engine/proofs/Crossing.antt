@@ -14,9 +14,12 @@ use Rattle.lethe_base.specs.contracts.refused.Refused as Refused
 use Rattle.lethe_build.specs.contracts.draft.Draft as Draft
 use Rattle.lethe_cert.specs.contracts.certificate.Certificate as Certificate
 use Rattle.lethe_core.specs.contracts.flight.Flight as Flight
+use Rattle.lethe_core.specs.contracts.flights.Flights as Flights
+use Rattle.lethe_core.specs.contracts.flights.Flights.TheInside as FlightsInside
 use Rattle.lethe_core.specs.contracts.holding.Core as Core
 use Rattle.lethe_disk.specs.declared.disk.Disk.{Ghosts}
 use Rattle.lethe_engine.specs.contracts.engine.Engine as Engine
+use Rattle.lethe_fade.specs.contracts.claim.Claim as Claim
 use Rattle.lethe_fade.specs.contracts.plan.Plan as Plan
 use Rattle.lethe_file.specs.contracts.view.FileView as FileView
 use Rattle.lethe_header.specs.contracts.header.Header as Header
@@ -27,7 +30,6 @@ use Rattle.lethe_job.specs.contracts.job.Job as Job
 use Rattle.lethe_job.specs.contracts.made.Made as Made
 use Rattle.lethe_job.specs.contracts.merge.MergeTask as MergeTask
 use Rattle.lethe_job.specs.contracts.number.Begun as Begun
-use Rattle.lethe_job.specs.contracts.number.BegunJobs as BegunJobs
 use Rattle.lethe_job.specs.contracts.task.Task as Task
 use Rattle.lethe_loose.specs.contracts.contents.Contents as Contents
 use Rattle.lethe_loose.specs.contracts.written.Written as Written
@@ -112,6 +114,9 @@ plan_send = search (crosses, sendable) depth 60
 plan_sync : IsSync Plan.the_row
 plan_sync = search (crosses, sendable) depth 60
 
+claim_send : IsSend Claim.the_row
+claim_send = search (crosses, sendable) depth 60
+
 config_send : IsSend Config.the_row
 config_send = search (crosses, sendable) depth 60
 
@@ -125,14 +130,11 @@ certificate_send = search (crosses, sendable) depth 60
 contents_send : IsSend Contents.the_row
 contents_send = owning_send Contents.the_type tt (λ d. tt) (λ k x w. tt)
 
-begun_jobs_send : IsSend BegunJobs.the_row
-begun_jobs_send = owning_send BegunJobs.the_type tt (λ d. tt) (λ k x w. tt)
-
 written_send : IsSend Written.the_row
 written_send = search (contents_send, crosses, sendable) depth 40
 
 begun_send : IsSend Begun.the_row
-begun_send = search (begun_jobs_send, crosses, sendable) depth 40
+begun_send = search (crosses, sendable) depth 40
 
 draft_send : IsSend Draft.the_row
 draft_send = search (tile_send, crosses, sendable) depth 60
@@ -197,18 +199,21 @@ module _ (D P Q : RattleType) (g : Ghosts D.Denot P.Denot Q.Denot) (s : IsSend P
   task_sync = let a = merge_sync in let b = sweep_sync in search (variants_sync, a, b) depth 20
 
   flight_send : IsSend (Flight.the_row D P Q g)
-  flight_send = declared_send (Flight.the_type D P Q g) (search (crosses, sendable) depth 40, (Arc-send _ task_send task_sync, (written_send, tt)))
+  flight_send = declared_send (Flight.the_type D P Q g) (u64_send, (Arc-send _ task_send task_sync, (claim_send, (written_send, tt))))
+
+  flights_send : IsSend (Flights.the_row D P Q g)
+  flights_send = let inside = declared_send (FlightsInside.the_type D P Q g) (Vec-send _ flight_send, tt) in search (inside, sendable) depth 20
 
   core_send : IsSend D → IsSend (Core.the_row D P Q g)
-  core_send d = let f = flight_send in declared_send (Core.the_type D P Q g)
-      (search (d, sendable) depth 20, (state_send, (version_send, (search (crosses, sendable) depth 40, (search (variants_send, f) depth 20, (pins_send, (begun_send, tt)))))))
+  core_send d = declared_send (Core.the_type D P Q g)
+      (search (d, sendable) depth 20, (state_send, (version_send, (search (crosses, sendable) depth 40, (flights_send, (pins_send, (begun_send, tt)))))))
 
   pub engine_send : IsSend D → IsSend (Engine.the_row D P Q g)
   engine_send d = declared_send (Engine.the_type D P Q g) (core_send d, (Vec-send _ certificate_send, tt))
 
   pub job_send : IsSend Q → IsSend (Job.the_row D P Q g)
   job_send q = declared_send (Job.the_type D P Q g)
-      (search (crosses, sendable) depth 40, (u64_send, (Arc-send _ task_send task_sync, (search (q, sendable) depth 20, (search (made_send, variants_send, sendable) depth 20, (number_send, (bool_send, tt)))))))
+      (u64_send, (u64_send, (Arc-send _ task_send task_sync, (search (q, sendable) depth 20, (search (made_send, variants_send, sendable) depth 20, (number_send, (bool_send, tt)))))))
 
   pub snapshot_send : IsSend (Snapshot.the_row D P Q g)
   snapshot_send = declared_send (Snapshot.the_type D P Q g)

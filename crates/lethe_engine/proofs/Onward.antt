@@ -65,7 +65,7 @@ counts_later from f0 f1 (Failed before after) le is = (is.0, is.1, let upto = is
 -- what is retired are pages
 pub sound_pages : (Tells : Type 0) (view : View) → IsSound Tells view → Tells → ArePages view.retired
 sound_pages Tells view sound told = All-weaker (λ (name : Name). (name.kind ≡ Page) × (name.no < view.state.next)) (λ (name : Name). name.kind ≡ Page) (λ name drawn. drawn.0) view.retired
-    (drawn_front view.state.next view.retired (names_in (loose_in view.flight)) (sound.drawn told)).each
+    (drawn_front view.state.next view.retired (names_in (loose_in view.flights)) (sound.drawn told)).each
 
 -- a store that was just opened
 pub opened_for : (config : Fields) (h : History) (start : Seen) (next : ℕ) (view : View) → StandsNow config h view → view.retired ≡ [] → view.state.stopped ≡ None → IsWritable view.state

@@ -1,5 +1,5 @@
 -- A store that was opened.
-use Rattle.std.proofs.Common.{◌≡◌, ◌≤◌, ◌+◌, ◌⊎◌, inl, inr, ℕ, List, [], ◌++◌, length, Option, None, refl, sym, ap, ◌∙◌, subst, arith}
+use Rattle.std.proofs.Common.{◌≡◌, ◌≤◌, ◌+◌, ◌⊎◌, inl, inr, ℕ, List, [], ◌++◌, length, Option, refl, sym, ap, ◌∙◌, subst, arith}
 use Rattle.std.specs.Prelude.{◌≢◌, All, IsTrue, false, true}
 use Rattle.std.proofs.lemmas.List.Elements.{All-nil}
 use Rattle.lethe_base.specs.History.{History, Change}
@@ -24,7 +24,6 @@ use Rattle.lethe_stored.specs.Stored.{Stored, IsCited, segment_name}
 use Rattle.lethe_tile.proofs.Orders.{pairs_nil}
 use Rattle.lethe_advance.specs.Settled.{AreDrawn, AreUncited, IsSettled, HasOnly, names_in}
 use Rattle.lethe_advance.specs.Untorn.{IsUntorn}
-use Rattle.lethe_clean.specs.Copied.{IsCopied}
 use Rattle.lethe_follows.specs.Young.{AreLaterRecorded}
 use Rattle.lethe_manifest.specs.declared.manifest.Manifest.{Manifest}
 use Rattle.lethe_state.specs.Remembered.{IsCurrent, IsFresh, Remembers}
@@ -35,8 +34,9 @@ use Rattle.lethe_engine.specs.Opening.{IsResumed, IsUntold}
 use Rattle.lethe_pins.specs.Held.{AreHeld, Ascend, ComesBefore, Held, IsGiven, is_named}
 use Rattle.lethe_pins.specs.declared.pin.Pin.{Pin}
 use Rattle.lethe_core.specs.Pinned.{AreTimely}
-use Rattle.lethe_core.specs.Running.{IsRunning, IsSmall}
-use Rattle.lethe_core.specs.View.{View, beside_at, loose_in}
+use Rattle.lethe_core.specs.Running.{IsCopiedFrom, IsRunning, IsSmall, IsTasked}
+use Rattle.lethe_core.specs.StandsNow.{IsCounted}
+use Rattle.lethe_core.specs.View.{Flying, View, beside_at, loose_in}
 use Rattle.lethe_engine.proofs.Onward.{opened_for}
 use Rattle.lethe_core.proofs.Beside.{none_drawn}
 use Rattle.lethe_core.proofs.Standing.{open_stands}
@@ -61,31 +61,32 @@ pub pages_none : (held : Held) → held ≡ unpinned → All (λ (pin : Pin). Al
 pages_none held none = subst (λ (held : Held). All (λ (pin : Pin). All (λ name. name.kind ≡ Page) pin.names) held.pins) (sym none) (All-nil (λ (pin : Pin). All (λ name. name.kind ≡ Page) pin.names))
 
 -- no job is in flight
-abbrev pub fresh_view : Seen → ℕ → List Name → Held → ℕ → ℕ → State → List (List Parts) → View
-fresh_view disk faults retired held begun rounds state levels = record { disk = disk; faults = faults; state = state; levels = levels; retired = retired; flight = None; begun = begun; rounds = rounds; pins = held }
+abbrev pub fresh_view : Seen → ℕ → List Name → List Flying → Held → ℕ → ℕ → State → List (List Parts) → View
+fresh_view disk faults retired flights held begun rounds state levels = record { disk = disk; faults = faults; state = state; levels = levels; retired = retired; flights = flights; begun = begun; rounds = rounds; pins = held }
 
-pub opened_running : (disk : Seen) (faults : ℕ) (retired : List Name) → retired ≡ [] → (held : Held) → held ≡ unpinned → (begun rounds : ℕ) (s : Stored) (state : State) (levels : List (List Parts))
+pub opened_running : (disk : Seen) (faults : ℕ) (retired : List Name) → retired ≡ [] → (flights : List Flying) → flights ≡ [] → (held : Held) → held ≡ unpinned → (begun rounds : ℕ) (s : Stored) (state : State) (levels : List (List Parts))
     → IsSettled disk s → HasOnly s [] disk.directory → IsUntorn s disk.directory → AreRising s.files → s.active.records ≡ []
-    → EndsAt disk (segment_name s.active.no) s.active.no [] 11 → state.end ≡ 11 → IsCurrent s state → IsRunning (fresh_view disk faults retired held begun rounds state levels) s
-opened_running disk faults retired empty held unheld begun rounds s state levels settled only untorn rising none ends end_is current = record {
+    → EndsAt disk (segment_name s.active.no) s.active.no [] 11 → state.end ≡ 11 → IsCurrent s state → IsRunning (fresh_view disk faults retired flights held begun rounds state levels) s
+opened_running disk faults retired empty flights free held unheld begun rounds s state levels settled only untorn rising none ends end_is current = subst (λ (flights : List Flying). IsRunning (fresh_view disk faults retired flights held begun rounds state levels) s) (sym free) (record {
   settled = settled;
-  only = subst (λ retired. HasOnly s (beside_at disk.directory retired None) disk.directory) (sym empty) only;
-  uncited = subst (λ retired. AreUncited s (beside_at disk.directory retired None)) (sym empty) (All-nil (λ (named : Name × List ℕ). IsCited s named.0 → ⊥));
+  only = subst (λ retired. HasOnly s (beside_at disk.directory retired []) disk.directory) (sym empty) only;
+  uncited = subst (λ retired. AreUncited s (beside_at disk.directory retired [])) (sym empty) (All-nil (λ (named : Name × List ℕ). IsCited s named.0 → ⊥));
   untorn = untorn;
-  copied = All-nil (IsCopied s);
+  copied = All-nil IsCopiedFrom;
   kept = λ name named. absurd (let none : false ≡ true = subst (λ (held : Held). IsTrue (is_named held.pins name)) unheld named in cc);
   rising = rising;
   ends = subst (EndsAt disk (segment_name s.active.no) s.active.no s.active.records) (sym end_is) (subst (λ records. EndsAt disk (segment_name s.active.no) s.active.no records 11) (sym none) ends);
   current = current;
-  tasked = tt;
-}
+  tasked = All-nil (IsTasked s);
+})
 
-pub resumed : (config : Fields) (h g : History) (change : Option Change) (start finish : Seen) (faults : ℕ) (retired : List Name) → retired ≡ [] → (held : Held) → held ≡ unpinned → (begun rounds : ℕ) (s : Stored) (state : State) (levels : List (List Parts))
+pub resumed : (config : Fields) (h g : History) (change : Option Change) (start finish : Seen) (faults : ℕ) (retired : List Name) → retired ≡ [] → (flights : List Flying) → flights ≡ [] → (held : Held) → held ≡ unpinned → (begun rounds : ℕ) (s : Stored) (state : State) (levels : List (List Parts))
     → IsHistoryOr h change g → IsKept config start.directory g → IsWritable state
-    → IsRunning (fresh_view finish faults retired held begun rounds state levels) s → Remembers s state levels → s.manifest.config ≡ config → IsFor g s → AreLaterRecorded s
-    → ((next : ℕ) → IsNextNumber start.directory next → state.next + start.moment ≤ next + finish.moment) → IsResumed config h change start (fresh_view finish faults retired held begun rounds state levels)
-resumed config h g change start finish faults retired empty held unheld begun rounds s state levels either was writable running remembers config_is stands recorded numbers =
-    let view : View = fresh_view finish faults retired held begun rounds state levels in
+    → IsRunning (fresh_view finish faults retired flights held begun rounds state levels) s → Remembers s state levels → s.manifest.config ≡ config → IsFor g s → AreLaterRecorded s
+    → ((next : ℕ) → IsNextNumber start.directory next → state.next + start.moment ≤ next + finish.moment) → IsResumed config h change start (fresh_view finish faults retired flights held begun rounds state levels)
+resumed config h g change start finish faults retired empty flights free held unheld begun rounds s state levels either was writable running remembers config_is stands recorded numbers =
+    let view : View = fresh_view finish faults retired flights held begun rounds state levels in
+    let counted = subst (All (λ (flying : Flying). IsCounted flying.task)) (sym free) (All-nil (λ (flying : Flying). IsCounted flying.task)) in
     let timely = subst (λ (names : List Name). AreTimely config.threshold g held.pins names finish.directory) (sym empty)
     (subst (λ (held : Held). AreTimely config.threshold g held.pins [] finish.directory) (sym unheld) (timely_none config.threshold g finish.directory)) in
     record {
@@ -93,7 +94,7 @@ resumed config h g change start finish faults retired empty held unheld begun ro
       either = either;
       was = was;
       stands = λ next is. opened_for config g start next view
-          (open_stands config g view s stands.legal stands.done (running.current.count ∙ stands.count) config_is stands (record { remembers = remembers; running = running }) tt recorded timely) empty running.current.runs writable (numbers next is);
+          (open_stands config g view s stands.legal stands.done (running.current.count ∙ stands.count) config_is stands (record { remembers = remembers; running = running }) counted recorded timely) empty running.current.runs writable (numbers next is);
     }
 
 -- damage, another configuration and numbers that ran out leave the disk as it was
@@ -114,6 +115,6 @@ small_fresh manifest state is = record {
 }
 
 -- no number was drawn for what lies beside, where nothing does
-pub drawn_none : (next : ℕ) (retired : List Name) → retired ≡ [] → AreDrawn next (retired ++ names_in (loose_in None))
-drawn_none next retired empty =
-    subst (λ retired. AreDrawn next (retired ++ names_in (loose_in None))) (sym empty) (none_drawn next)
+pub drawn_none : (next : ℕ) (retired : List Name) (flights : List Flying) → retired ≡ [] → flights ≡ [] → AreDrawn next (retired ++ names_in (loose_in flights))
+drawn_none next retired flights empty free =
+    subst (λ retired. AreDrawn next (retired ++ names_in (loose_in flights))) (sym empty) (subst (λ flights. AreDrawn next (names_in (loose_in flights))) (sym free) (none_drawn next))

@@ -93,7 +93,7 @@ told_first view to number limit why first barred =
 
 -- the jobs behind a tick, by whether it passed the tests
 abbrev face_if : View → Bool → Face
-face_if view passed = if passed then record (face_of view) { rounds = view.rounds + 1; flight = None } else face_of view
+face_if view passed = if passed then record (face_of view) { rounds = view.rounds + 1; flights = [] } else face_of view
 
 module _ (view : View) (to : ℕ) where
   -- each is passed
@@ -132,9 +132,9 @@ module _ (view : View) (to : ℕ) where
   ticked_not why is = ap (face_if view) (passes_not why is)
 
   -- one that begins ends a round
-  pub ticked_now : (new : View) → passes view to ≡ true → new.begun ≡ view.begun → new.rounds ≡ view.rounds + 1 → new.flight ≡ None → new.pins ≡ view.pins → face_of new ≡ ticked_face view to
-  ticked_now new all begun rounds flight pins =
-      let same : face_of new ≡ face_if view true = λ i. record { begun = begun i; rounds = rounds i; flight = flight i; made = (pins i).made; held = map limited_of (pins i).pins } in
+  pub ticked_now : (new : View) → passes view to ≡ true → new.begun ≡ view.begun → new.rounds ≡ view.rounds + 1 → new.flights ≡ [] → new.pins ≡ view.pins → face_of new ≡ ticked_face view to
+  ticked_now new all begun rounds free pins =
+      let same : face_of new ≡ face_if view true = λ i. record { begun = begun i; rounds = rounds i; flights = free i; made = (pins i).made; held = map limited_of (pins i).pins } in
       same ∙ sym (ap (face_if view) all)
 
   -- a refusal before any work is no failure
@@ -205,6 +205,7 @@ module _ (view : View) (rounds : ℕ) where
     writable = is.writable;
     small = is.small;
     count = is.count;
+    flights = is.flights;
     flies = is.flies;
     loose = is.loose;
     drawn = is.drawn;

@@ -1,5 +1,5 @@
 -- What each call of a store says of itself: what it was asked, why it was refused if it was, the store before and the store behind.
-use Rattle.std.specs.Prelude.{◌≡◌, ◌≤◌, ◌+◌, ℕ, Option, None, IfSome, IsSome}
+use Rattle.std.specs.Prelude.{◌≡◌, ◌≤◌, ◌+◌, ℕ, List, Option, None, IfSome, IsSome}
 use Rattle.lethe_base.specs.History.{History}
 use Rattle.lethe_base.specs.declared.call.Call.{Call}
 use Rattle.lethe_base.specs.declared.call.Call.TheVariants.{Put, Delete, Erase, Tick, Work}
@@ -23,12 +23,12 @@ use Rattle.lethe_engine.specs.Refusals.{SeesRoom}
 use Rattle.lethe_engine.specs.StandsFor.{IsKeptFor, Opened, StandsSince}
 
 -- the steps of a change that may have been done where it was refused
-abbrev pub IsBegun : Call → Option Flying → Stored → Stored → Type 0
-IsBegun (Put key dkey value) flight = IsRoomBegun flight
-IsBegun (Delete key) flight = IsRoomBegun flight
-IsBegun (Erase range) flight = IsRoomBegun flight
-IsBegun (Tick to) flight = IsTickedInPart to
-IsBegun Work flight = λ s t. t ≡ s
+abbrev pub IsBegun : Call → List Flying → Stored → Stored → Type 0
+IsBegun (Put key dkey value) flights = IsRoomBegun flights
+IsBegun (Delete key) flights = IsRoomBegun flights
+IsBegun (Erase range) flights = IsRoomBegun flights
+IsBegun (Tick to) flights = IsTickedInPart to
+IsBegun Work flights = λ s t. t ≡ s
 
 -- Of a change nothing is done before its record is written, as the store sees it: there is room for that. A tick writes no record.
 abbrev pub IsReadyFor : Call → State → Type 0
@@ -41,7 +41,7 @@ IsReadyFor Work state = SeesRoom state
 -- What stands behind a call that was refused, unless the disk failed in it. Work and looks leave all as it was. So does a change where there was room; where there
 -- was none, some of the steps that make it may have been done, and nothing else. Of a tick, too, some steps may have been done.
 abbrev pub IsRefused : Type 0 → Asked → View → View → Refused → Type 0
-IsRefused Tells (Makes call) old new why = (IsReadyFor call old.state → IsUndone Tells old new why) × IsDoneInPart Tells (IsBegun call old.flight) old new why
+IsRefused Tells (Makes call) old new why = (IsReadyFor call old.state → IsUndone Tells old new why) × IsDoneInPart Tells (IsBegun call old.flights) old new why
 IsRefused Tells (Serves call) old new why = IsUndone Tells old new why
 
 -- nothing was done, but that a job may have been forgotten

@@ -1,5 +1,5 @@
 -- The calls of a job.
-use Rattle.std.specs.Prelude.{◌≡◌, ◌≤◌, ◌<◌, ℕ, ◌+◌, ◌-◌, ◌&&◌, nat_le, List, length, None, is_none, option_map, IfSome, IsSome, Result, Ok, Err, if◌then◌else◌}
+use Rattle.std.specs.Prelude.{◌≡◌, ◌≤◌, ◌<◌, ℕ, ◌+◌, ◌-◌, ◌&&◌, nat_le, List, length, is_none, IfSome, IsSome, Result, Ok, Err, if◌then◌else◌}
 use Rattle.lethe_base.specs.Limits.{max_place}
 use Rattle.lethe_base.specs.declared.name.Name.{Name}
 use Rattle.lethe_base.specs.declared.refused.Refused.{Refused}
@@ -9,7 +9,7 @@ use Rattle.lethe_job.specs.MadeOf.{numbers_in, pages_of}
 use Rattle.lethe_job.specs.Works.{plain_task}
 use Rattle.lethe_job.specs.declared.job.Job.{Job}
 use Rattle.lethe_job.specs.declared.job.Piece.{Piece}
-use Rattle.lethe_core.specs.Jobs.{with_begun, with_page}
+use Rattle.lethe_core.specs.Jobs.{with_begun, with_page_of, without}
 use Rattle.lethe_core.specs.View.{Face, View, face_of}
 
 -- the job was begun in an earlier round, so that it was given up
@@ -33,20 +33,20 @@ abbrev pub begun_face : {D Page Port : Type 0} {kind : Ghosts D Page Port} → F
 begun_face face (Ok job) = with_begun face (plain_task job.task.value)
 begun_face face (Err why) = face
 
--- it has one page more
-abbrev pub written_face : Face → Name × List ℕ → Result (Unit {0}) Refused → Face
-written_face face page (Ok done) = record face { flight = option_map (λ flying. with_page flying page) face.flight }
-written_face face page (Err why) = face
+-- the job of a number has one page more
+abbrev pub written_face : ℕ → Face → Name × List ℕ → Result (Unit {0}) Refused → Face
+written_face number face page (Ok done) = record face { flights = with_page_of number page face.flights }
+written_face number face page (Err why) = face
 
 -- it is in flight no more
-abbrev pub ended_face : {E : Type 0} → Face → Result (Unit {0}) E → Face
-ended_face face (Ok done) = record face { flight = None }
-ended_face face (Err why) = face
+abbrev pub ended_face : {E : Type 0} → ℕ → Face → Result (Unit {0}) E → Face
+ended_face number face (Ok done) = record face { flights = without number face.flights }
+ended_face number face (Err why) = face
 
 -- given up it is in flight no more, whether or not the disk failed, but where no place is left for that and no call has failed
-abbrev pub given_up : Face → State → Face
-given_up face state = if is_none state.stopped && nat_le max_place state.count then face else record face { flight = None }
+abbrev pub given_up : ℕ → Face → State → Face
+given_up number face state = if is_none state.stopped && nat_le max_place state.count then face else record face { flights = without number face.flights }
 
 -- what the jobs have come to behind the cancel of a job: one of an earlier round was given up before
 abbrev pub cancelled_face : {D Page Port : Type 0} {kind : Ghosts D Page Port} → View → Job D Page Port kind → Face
-cancelled_face view job = if nat_le view.rounds job.round then given_up (face_of view) view.state else face_of view
+cancelled_face view job = if nat_le view.rounds job.round then given_up job.number (face_of view) view.state else face_of view

@@ -1,5 +1,5 @@
 -- Why the calls of a store are refused.
-use Rattle.std.specs.Prelude.{◌≡◌, ◌<◌, ◌⊎◌, ℕ, Some, None, IsSome}
+use Rattle.std.specs.Prelude.{◌≡◌, ◌≢◌, ◌<◌, ◌⊎◌, ℕ, [], Some, None}
 use Rattle.lethe_base.specs.declared.refused.Refused.{Refused}
 use Rattle.lethe_base.specs.declared.refused.Refused.TheVariants.{Fault, Stopped, Backwards, Pinned, NothingDue, Cancelled, Exhausted, ReadFault, NoMemory, Damaged}
 use Rattle.lethe_disk.specs.declared.disk.Disk.{Ghosts}
@@ -37,7 +37,7 @@ HasReasonOfChange Tells PortsFail old new before now why = HasReasonAt Tells Por
 -- The begin of a job: an earlier call failed, a job is in flight or nothing is due, or there was no memory.
 abbrev pub HasReasonOfBegin : Type 0 → View → Refused → Type 0
 HasReasonOfBegin Tells view (Stopped at) = view.state.stopped ≡ Some at
-HasReasonOfBegin Tells view NothingDue = (view.state.stopped ≡ None) × (IsSome view.flight ⊎ (Tells → (s : Stored) → Holds view s → HasNoMerge s))
+HasReasonOfBegin Tells view NothingDue = (view.state.stopped ≡ None) × ((view.flights ≢ []) ⊎ (Tells → (s : Stored) → Holds view s → HasNoMerge s))
 HasReasonOfBegin Tells view NoMemory = Unit {0}
 HasReasonOfBegin Tells view (Fault place before after) = ⊥
 HasReasonOfBegin Tells view (Backwards clock) = ⊥

@@ -24,7 +24,7 @@ passes view to =
 
 -- Behind a tick that passes its tests a round more has ended, and no job is in flight.
 abbrev pub ticked_face : View → ℕ → Face
-ticked_face view to = if passes view to then record (face_of view) { rounds = view.rounds + 1; flight = None } else face_of view
+ticked_face view to = if passes view to then record (face_of view) { rounds = view.rounds + 1; flights = [] } else face_of view
 
 -- the certificate that a tick answered, if it did
 abbrev pub answered_by : Result Ticked Refused → List Certificate

@@ -54,7 +54,7 @@ impl<D: Disk> Engine<D> {
         // Acknowledged: room was made, for which the port has fetched each page of the merges' inputs once, and of a swept file those that its header tells, and the record is
         // behind the others in the active segment.
         ensures written { D.tells → (s : Stored) → Holds (view_of self.old.core) s
-            → OnOk result ((t : Stored) × (outcomes : List Outcome) × IsRoomMadeBy (view_of self.old.core).flight s outcomes t
+            → OnOk result ((t : Stored) × (outcomes : List Outcome) × IsRoomMadeBy (view_of self.old.core).flights s outcomes t
             × Holds (view_of self.new.core) (appended t (put_over t key dkey value)) × (D.fetches port.new ≡ D.fetches port.old + pages_of outcomes)
             × AreRetiredBehind outcomes (view_of self.old.core).pins.pins (view_of self.old.core).retired (view_of self.new.core).retired) }
 
@@ -105,7 +105,7 @@ impl<D: Disk> Engine<D> {
         // Acknowledged: room was made, for which the port has fetched each page of the merges' inputs once, and of a swept file those that its header tells, and the record is
         // behind the others in the active segment.
         ensures written { D.tells → (s : Stored) → Holds (view_of self.old.core) s
-            → OnOk result ((t : Stored) × (outcomes : List Outcome) × IsRoomMadeBy (view_of self.old.core).flight s outcomes t
+            → OnOk result ((t : Stored) × (outcomes : List Outcome) × IsRoomMadeBy (view_of self.old.core).flights s outcomes t
             × Holds (view_of self.new.core) (appended t (erase_over t range)) × (D.fetches port.new ≡ D.fetches port.old + pages_of outcomes)
             × AreRetiredBehind outcomes (view_of self.old.core).pins.pins (view_of self.old.core).retired (view_of self.new.core).retired) }
 
@@ -153,7 +153,7 @@ impl<D: Disk> Engine<D> {
         // Acknowledged: room was made, for which the port has fetched each page of the merges' inputs once, and of a swept file those that its header tells, and the record is
         // behind the others in the active segment.
         ensures written { D.tells → (s : Stored) → Holds (view_of self.old.core) s
-            → OnOk result ((t : Stored) × (outcomes : List Outcome) × (next : Record) × IsRoomMadeBy (view_of self.old.core).flight s outcomes t
+            → OnOk result ((t : Stored) × (outcomes : List Outcome) × (next : Record) × IsRoomMadeBy (view_of self.old.core).flights s outcomes t
             × IsDeleteOver t (headers_in (view_of self.new.core).levels) key next
             × Holds (view_of self.new.core) (appended t next) × (D.fetches port.new ≡ D.fetches port.old + pages_of outcomes)
             × AreRetiredBehind outcomes (view_of self.old.core).pins.pins (view_of self.old.core).retired (view_of self.new.core).retired) }

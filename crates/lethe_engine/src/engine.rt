@@ -23,7 +23,7 @@ ghost use Rattle.lethe_engine.specs.Answers.{Answers};
 
 use lethe_base::{Config, NoMemory};
 use lethe_cert::Certificate;
-use lethe_core::Core;
+use lethe_core::{Core, Flights};
 use lethe_disk::Disk;
 use lethe_job::Begun;
 use lethe_pins::Pins;
@@ -99,7 +99,7 @@ impl<D: Disk> Engine<D> {
                         state,
                         version,
                         retired: Vec::new(alloc),
-                        flight: None,
+                        flights: Flights::new(alloc),
                         pins: Pins::new(alloc),
                         begun: Begun::none(),
                     },
@@ -120,7 +120,7 @@ impl<D: Disk> Engine<D> {
         ensures answers { Answers D.tells (Serves Work) (option_map (λ none. refused.NoMemory) (result_err result)) (face_of (view_of self.old.core)) (view_of self.old.core) (view_of self.new.core) }
         ensures fresh { IfOk result (λ port. (D.fetches port ≡ 0) × (D.port_faults port ≡ 0)) }
         ensures idle { D.tells → IsIdle (D.seen self.old.core.disk) (D.seen self.new.core.disk) }
-        ensures same { (self.new.core.state ≡ self.old.core.state) × (self.new.core.version ≡ self.old.core.version) × (self.new.core.flight ≡ self.old.core.flight) }
+        ensures same { (self.new.core.state ≡ self.old.core.state) × (self.new.core.version ≡ self.old.core.version) × (self.new.core.flights ≡ self.old.core.flights) }
         ensures retired { self.new.core.retired ≡ self.old.core.retired }
         ensures faults { D.faults self.new.core.disk ≡ D.faults self.old.core.disk }
         ensures certificates { self.new.certificates ≡ self.old.certificates }

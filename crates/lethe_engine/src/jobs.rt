@@ -1,5 +1,5 @@
 //! The jobs of a store: merges and sweeps that run beside its other calls.
-ghost use Rattle.std.specs.Prelude.{◌≡◌, ◌≤◌, ◌<◌, ◌+◌, ◌⊎◌, ℕ, true, Some, None, length, IfOk, IfErr, IfSome, IsErrOf, IsOk, IsSome, OnErr, OnOk, option_map};
+ghost use Rattle.std.specs.Prelude.{◌≡◌, ◌≢◌, ◌≤◌, ◌<◌, ◌+◌, ◌⊎◌, ℕ, [], true, Some, None, length, IfOk, IfErr, IfSome, IsErrOf, IsOk, IsSome, OnErr, OnOk, option_map};
 ghost use Rattle.std.specs.Result.{result_err};
 ghost use Rattle.std.specs.FinMap.{insert};
 ghost use Rattle.lethe_advance.specs.Settled.{names_in};
@@ -14,8 +14,9 @@ ghost use Rattle.lethe_job.specs.MadeOf.{pages_of};
 ghost use Rattle.lethe_job.specs.Works.{IsBegunIn, plain_task, plan_of};
 ghost use Rattle.lethe_core.specs.Pinned.{AreNamed};
 ghost use Rattle.lethe_core.specs.Asked.{Serves};
-ghost use Rattle.lethe_core.specs.Jobs.{IsAtWork, IsInFlight, IsWhole, with_page};
-ghost use Rattle.lethe_core.specs.Merges.{AreFirst, IsInstalled, IsNextPlan};
+ghost use Rattle.lethe_core.specs.Flights.{company_of, flying_by, without};
+ghost use Rattle.lethe_core.specs.Jobs.{IsAtWork, IsInFlight, IsWhole};
+ghost use Rattle.lethe_core.specs.Merges.{AreFirst, IsInstalledWith, IsNextPlan};
 ghost use Rattle.lethe_core.specs.Running.{Holds, IsSound};
 ghost use Rattle.lethe_core.specs.View.{face_of, view_of};
 ghost use Rattle.lethe_engine.specs.Answers.{Answers};
@@ -45,15 +46,15 @@ impl<D: Disk> Engine<D> {
 
         // On any disk: the plan of its task is that of the shape in memory, and `NothingDue` where no job is in flight says that there is none.
         ensures picked { IfOk result (λ job. IsNextPlan (view_of self.old.core) (Some (plan_of (plain_task job.task.value)))) }
-        ensures unpicked { self.old.core.flight ≡ None → IsErrOf result refused.NothingDue → IsNextPlan (view_of self.old.core) None }
-        ensures number { IfOk result (λ job. (job.number.value ≡ self.old.core.begun.jobs) × (job.round ≡ self.old.core.begun.rounds)) }
+        ensures unpicked { self.old.core.flights ≡ [] → IsErrOf result refused.NothingDue → IsNextPlan (view_of self.old.core) None }
+        ensures number { IfOk result (λ job. (job.number ≡ self.old.core.begun.jobs) × (job.round ≡ self.old.core.begun.rounds)) }
         ensures works { IfOk result (IsAtWork D.tells (view_of self.new.core)) }
         ensures unmade { IfOk result (λ job. (job.made ≡ None) × (D.fetches job.port ≡ 0) × (D.port_faults job.port ≡ 0)) }
 
         // A refusal has its reason.
         ensures why { IfErr result (HasReasonOfBegin D.tells (view_of self.old.core)) }
         ensures stopped { (at : ℕ) → self.old.core.state.stopped ≡ Some at → IsErrOf result (refused.Stopped at) × (self.new ≡ self.old) }
-        ensures busy { self.old.core.state.stopped ≡ None → IsSome self.old.core.flight → IsErrOf result refused.NothingDue × (self.new ≡ self.old) }
+        ensures busy { self.old.core.state.stopped ≡ None → self.old.core.flights ≢ [] → IsErrOf result refused.NothingDue × (self.new ≡ self.old) }
 
         // All else is as it was.
         ensures same { (self.new.core.state ≡ self.old.core.state) × (self.new.core.version ≡ self.old.core.version) × (self.new.core.retired ≡ self.old.core.retired) }
@@ -65,7 +66,7 @@ impl<D: Disk> Engine<D> {
         if let Some(at) = self.core.state.stopped() {
             return Err(Refused::Stopped { at });
         }
-        if self.core.flight.is_some() {
+        if !self.core.flights.is_empty() {
             return Err(Refused::NothingDue);
         }
         match self.core.begin_now(alloc) {
@@ -86,7 +87,7 @@ impl<D: Disk> Engine<D> {
         requires sound { IsSound D.tells (view_of self.old.core) }
         requires works { IsAtWork D.tells (view_of self.old.core) job.old ⊎ IsPast (view_of self.old.core) job.old }
         requires next { IsNextPage job.old piece }
-        ensures answers { Answers D.tells (Serves Work) (result_err result) (written_face (face_of (view_of self.old.core)) (page_name self.old.core.state.next, next_bytes job.old) result) (view_of self.old.core) (view_of self.new.core) }
+        ensures answers { Answers D.tells (Serves Work) (result_err result) (written_face job.old.number (face_of (view_of self.old.core)) (page_name self.old.core.state.next, next_bytes job.old) result) (view_of self.old.core) (view_of self.new.core) }
 
         // Acknowledged: the page is there beside what is stored, and is the one object that came.
         ensures works { OnOk result (IsAtWork D.tells (view_of self.new.core) job.new) }
@@ -144,7 +145,7 @@ impl<D: Disk> Engine<D> {
         requires works { IsAtWork D.tells (view_of self.old.core) job.now ⊎ IsPast (view_of self.old.core) job.now }
         requires made { IsSome job.now.made }
         requires left { IfSome job.now.made (λ made. job.now.written < length (pages_of made)) }
-        ensures answers { Answers D.tells (Serves Work) (result_err result) (written_face (face_of (view_of self.old.core)) (page_name self.old.core.state.next, next_bytes job.now) result) (view_of self.old.core) (view_of self.new.core) }
+        ensures answers { Answers D.tells (Serves Work) (result_err result) (written_face job.now.number (face_of (view_of self.old.core)) (page_name self.old.core.state.next, next_bytes job.now) result) (view_of self.old.core) (view_of self.new.core) }
         ensures held { D.tells → (s : Stored) → Holds (view_of self.old.core) s → OnOk result (Holds (view_of self.new.core) s) }
         ensures page { D.tells → OnOk result ((D.seen self.new.core.disk).directory ≡ insert (D.seen self.old.core.disk).directory (page_name self.old.core.state.next) (next_bytes job.now)) }
         ensures present { OnOk result (IsAtWork D.tells (view_of self.old.core) job.now) }
@@ -162,7 +163,7 @@ impl<D: Disk> Engine<D> {
         self.check_round(job)?;
         self.core.state.may_change()?;
         let before = self.core.disk.faults();
-        self.core.write_now(before, job.next_page())
+        self.core.write_now(before, job.number(), job.next_page())
     }
 
     /// Installs what a job made, whose pages are all written: it takes the place of the files that go, and what no manifest cites any more is removed, but for the
@@ -176,11 +177,12 @@ impl<D: Disk> Engine<D> {
         requires sound { IsSound D.tells (view_of self.old.core) }
         requires works { IsAtWork D.tells (view_of self.old.core) job ⊎ IsPast (view_of self.old.core) job }
         requires whole { IsWhole job }
-        ensures answers { Answers D.tells (Serves Work) (option_map (λ back. back.1) (result_err result)) (ended_face (face_of (view_of self.old.core)) result) (view_of self.old.core) (view_of self.new.core) }
+        ensures answers { Answers D.tells (Serves Work) (option_map (λ back. back.1) (result_err result)) (ended_face job.number (face_of (view_of self.old.core)) result) (view_of self.old.core) (view_of self.new.core) }
 
-        // Acknowledged: what is stored is the outcome of the task, whose new pages begin with those of the job in flight.
-        ensures done { D.tells → (s : Stored) → Holds (view_of self.old.core) s → OnOk result ((t : Stored) × IsInstalled s (plain_task job.task.value) t × Holds (view_of self.new.core) t
-            × IfSome (view_of self.old.core).flight (λ flying. AreFirst (names_in flying.written) s t)) }
+        // Acknowledged: what is stored is the outcome of the task, whose new pages begin with those of the job in flight. Beside another job no erase leaves the list.
+        ensures done { D.tells → (s : Stored) → Holds (view_of self.old.core) s
+            → OnOk result ((t : Stored) × IsInstalledWith (company_of (without job.number self.old.core.flights)) s (plain_task job.task.value) t × Holds (view_of self.new.core) t
+            × IfSome (flying_by job.number self.old.core.flights) (λ flying. AreFirst (names_in flying.written) s t)) }
 
         // Of the pages that no manifest cites any more exactly those stay that a held pin names.
         ensures named { OnOk result (AreNamed (view_of self.new.core).pins.pins (view_of self.new.core).retired) }
@@ -214,9 +216,10 @@ impl<D: Disk> Engine<D> {
         requires sound { IsSound D.tells (view_of self.old.core) }
         requires works { IsAtWork D.tells (view_of self.old.core) job.old ⊎ IsPast (view_of self.old.core) job.old }
         requires whole { IsWhole job.old }
-        ensures answers { Answers D.tells (Serves Work) (result_err result) (ended_face (face_of (view_of self.old.core)) result) (view_of self.old.core) (view_of self.new.core) }
-        ensures done { D.tells → (s : Stored) → Holds (view_of self.old.core) s → OnOk result ((t : Stored) × IsInstalled s (plain_task job.old.task.value) t × Holds (view_of self.new.core) t
-            × IfSome (view_of self.old.core).flight (λ flying. AreFirst (names_in flying.written) s t)) }
+        ensures answers { Answers D.tells (Serves Work) (result_err result) (ended_face job.old.number (face_of (view_of self.old.core)) result) (view_of self.old.core) (view_of self.new.core) }
+        ensures done { D.tells → (s : Stored) → Holds (view_of self.old.core) s
+            → OnOk result ((t : Stored) × IsInstalledWith (company_of (without job.old.number self.old.core.flights)) s (plain_task job.old.task.value) t × Holds (view_of self.new.core) t
+            × IfSome (flying_by job.old.number self.old.core.flights) (λ flying. AreFirst (names_in flying.written) s t)) }
         ensures named { OnOk result (AreNamed (view_of self.new.core).pins.pins (view_of self.new.core).retired) }
         ensures job { job.new ≡ record job.old { made = job.new.made } }
         ensures why { IfErr result (HasReasonOfJob (IsShortToInstall (view_of self.old.core) job.old) job.old (view_of self.old.core) (view_of self.new.core)) }
@@ -234,7 +237,7 @@ impl<D: Disk> Engine<D> {
         self.core.state.may_change()?;
         let before = self.core.disk.faults();
         let made = job.take_made().unwrap();
-        self.core.install_now(alloc, before, made)
+        self.core.install_now(alloc, before, job.number(), made)
     }
 
     /// Gives a job up, and removes its pages. It takes no memory. Where the last place of the history is taken nothing can be removed: then the job's pages stay, and it
@@ -269,15 +272,16 @@ impl<D: Disk> Engine<D> {
             }
             return Ok(());
         }
+        let number = job.number();
         drop(job);
         if let Some(at) = self.core.state.stopped() {
-            self.core.flight = None;
+            self.core.flights.end(number);
             return Err(Refused::Stopped { at });
         }
         if self.core.state.count() >= MAX_PLACE {
             return Ok(());
         }
         let before = self.core.disk.faults();
-        self.core.cancel_now(before)
+        self.core.cancel_now(before, number)
     }
 }

@@ -49,7 +49,7 @@ pub struct Ticked {
 }
 
 impl<D: Disk> Engine<D> {
-    /// Moves the clock to a time. First the job in flight is given up, with its round, and retired pages that no held pin names are removed. Where a record of a segment is as
+    /// Moves the clock to a time. First the jobs in flight are given up, with their round, and retired pages that no held pin names are removed. Where a record of a segment is as
     /// old at that time as level 0 may have it, both buffers are flushed; then the merges and sweeps that are due at that time are carried out, one after another until none is,
     /// and their files are read through the port; then the clock moves. So behind a tick no object of the disk holds a value that was erased a threshold before its time, or
     /// longer ago.

@@ -6,6 +6,8 @@ pub mod Stepping
 pub mod Answering
 pub mod Permuted
 pub mod MergeLevels
+pub mod LettingGo
+pub mod Renewed
 pub mod MergeFiles
 pub mod MergeRising
 pub mod MergeErases
@@ -14,7 +16,6 @@ pub mod Staying
 pub mod ErasesStaying
 pub mod Ticking
 pub mod Young
-pub mod LettingGo
 pub mod Recorded
 pub mod Behind
 pub mod Expired

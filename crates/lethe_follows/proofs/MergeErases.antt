@@ -1,35 +1,12 @@
 -- The erases that are pending once a merge is installed.
-use Rattle.std.proofs.Common.{◌≡◌, ℕ, Bool, List, ◌++◌, sym, ap, ◌∙◌}
-use Rattle.std.specs.Prelude.{filter_map}
-use Rattle.std.proofs.lemmas.List.Elements.{Contains-append_right}
-use Rattle.lethe_base.specs.Spent.{done_upto}
+use Rattle.std.proofs.Common.{◌≡◌, ℕ, Bool, List, sym, ap, ◌∙◌}
 use Rattle.lethe_base.specs.declared.pending.Pending.{Pending}
-use Rattle.lethe_manifest.specs.declared.manifest.Manifest.{Manifest}
-use Rattle.lethe_stored.specs.Stored.{Stored, erase_of, layout_of, pending_of, records_of}
-use Rattle.lethe_follows.specs.Leaving.{first_erase, kept_erases, kept_of, let_go}
-use Rattle.lethe_follows.specs.Merged.{IsMerged, StoredMerge, erases_kept, merging_manifest}
-use Rattle.lethe_follows.proofs.Erases.{in_order_again}
-use Rattle.lethe_follows.proofs.LettingGo.{pending_kept}
+use Rattle.lethe_stored.specs.Stored.{Stored, pending_of}
+use Rattle.lethe_follows.specs.Merged.{Company, IsMergedWith, StoredMerge, erases_with}
+use Rattle.lethe_follows.proofs.Renewed.{is_renewed, renewed_pending}
 
-module _ (s : Stored) (m : StoredMerge) (applied : List Pending) (alone : Bool) (upto : ℕ) (t : Stored) (is : IsMerged s m applied alone upto t) where
-  abbrev manifest : Manifest
-  manifest = merging_manifest s t.files is.number
-
-  -- what is stored with all erases that were pending before
-  abbrev pub with_all : Stored
-  with_all = record { manifest = record manifest { erases = pending_of s }; frozen = s.frozen; active = s.active; files = t.files }
-
-  pub pending_all : pending_of with_all ≡ pending_of s
-  pending_all = in_order_again (s.manifest.erases ++ filter_map erase_of (records_of s)) (filter_map erase_of (records_of s)) (λ erase there. Contains-append_right s.manifest.erases (filter_map erase_of (records_of s)) erase there)
-
-  kept_all : kept_erases with_all ≡ erases_kept s t.files
-  kept_all = ap (λ pending. kept_of pending (done_upto (layout_of (record s { files = t.files }))) (first_erase s)) pending_all
-
-  -- of these, those that are spent leave
-  pub left_is : let_go with_all ≡ t
-  left_is =
-      let same : record manifest { erases = kept_erases with_all } ≡ t.manifest = (λ i. record manifest { erases = kept_all i }) ∙ sym is.manifest in
-      λ i. record { manifest = same i; frozen = sym is.frozen i; active = sym is.active i; files = t.files }
-
-  pub merged_pending : pending_of t ≡ erases_kept s t.files
-  merged_pending = ap pending_of (sym left_is) ∙ pending_kept with_all ∙ kept_all
+-- all that were pending stay beside another job, and of the last one's those that are kept
+pub merged_pending : {company : Company} (s : Stored) (m : StoredMerge) (applied : List Pending) (alone : Bool) (upto : ℕ) (t : Stored)
+    → IsMergedWith company s m applied alone upto t → pending_of t ≡ erases_with company s t.files
+merged_pending {company = company} s m applied alone upto t is =
+    ap pending_of (sym (is_renewed company s t is.number is.manifest is.frozen is.active)) ∙ renewed_pending s t.files is.number company

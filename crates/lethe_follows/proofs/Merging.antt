@@ -36,12 +36,12 @@ use Rattle.lethe_stored.specs.Kept.{IsFor}
 use Rattle.lethe_stored.specs.Stored.{Stored, IsCoherent, count_of, layout_of, pending_of}
 use Rattle.lethe_stored.proofs.Leveled.{from_filter, from_level, in_filter, low_level, of_level}
 use Rattle.lethe_stored.proofs.Numbered.{covers_numbered}
-use Rattle.lethe_follows.specs.Merged.{IsAlone, IsMergeIn, IsMerged, StoredMerge, IsWhole, entries_in, erases_upto, hull_of, inputs_of}
+use Rattle.lethe_follows.specs.Merged.{Company, Beside, IsAlone, IsMergeIn, IsMergedWith, StoredMerge, IsWhole, entries_in, erases_upto, hull_of, inputs_of}
 use Rattle.lethe_follows.proofs.Filing.{old_number}
 use Rattle.lethe_follows.proofs.Following.{file_from, file_in, follows}
 use Rattle.lethe_follows.proofs.LettingGo.{kept_for}
-use Rattle.lethe_follows.proofs.MergeErases.{left_is, pending_all, with_all}
 use Rattle.lethe_follows.proofs.MergeLevels.{levels_are, levels_become, merge_of, range_from}
+use Rattle.lethe_follows.proofs.Renewed.{all_pending, is_renewed, renewed, renewed_has}
 
 -- The inputs as a layout has them
 
@@ -55,10 +55,10 @@ none_mapped : {X Y : Type 0} (f : X → Y) (xs : List X) → map f xs ≡ [] →
 none_mapped f [] none = refl
 none_mapped f (x ∷ xs) none = absurd cc
 
-module _ (h : History) (s : Stored) (coherent : IsCoherent s) (stands : IsFor h s) (m : StoredMerge) (begun : IsMergeIn s m) (alone : Bool)
+module _ {company : Company} (h : History) (s : Stored) (coherent : IsCoherent s) (stands : IsFor h s) (m : StoredMerge) (begun : IsMergeIn s m) (alone : Bool)
     (lone : IsTrue alone → IsAlone s m.level (hull_of (inputs_of m))) (last : m.level + 1 ≡ s.manifest.config.levels → IsTrue alone)
     (upto : ℕ) (within : upto ≤ count_of s) (low : All (λ (entry : Entry). entry.seq ≤ upto) (entries_in (inputs_of m)))
-    (t : Stored) (is : IsMerged s m (erases_upto upto (pending_of s)) alone upto t)
+    (t : Stored) (is : IsMergedWith company s m (erases_upto upto (pending_of s)) alone upto t)
   where
     abbrev deepest : ℕ
     deepest = s.manifest.config.levels
@@ -150,8 +150,9 @@ module _ (h : History) (s : Stored) (coherent : IsCoherent s) (stands : IsFor h 
     after : Follows threshold h (record l { levels = moves.levels_then laid })
     after = merge_follows threshold h l (follows h s coherent stands) applied upto laid merges
 
+    -- with all erases that were pending
     abbrev next : Stored
-    next = with_all s m applied alone upto t is
+    next = renewed Beside s t.files is.number
 
     levels_merged : levels_of deepest t.files ≡ moves.levels_then laid
     levels_merged = levels_become deepest s.files t.files m is.made begun.level is.from is.into is.rest
@@ -160,11 +161,10 @@ module _ (h : History) (s : Stored) (coherent : IsCoherent s) (stands : IsFor h 
     count_merged = omega arith
 
     layout_merged : layout_of next ≡ record l { levels = moves.levels_then laid; count = count_of next; next = is.number + 1 }
-    layout_merged = λ i. record l { count = count_of next; next = is.number + 1; pending = pending_all s m applied alone upto t is i; levels = levels_merged i }
+    layout_merged = λ i. record l { count = count_of next; next = is.number + 1; pending = all_pending s t.files is.number i; levels = levels_merged i }
 
-    -- with all that was pending, what is stored stands for the history, and so it does without what is spent
-    pub merged_for : IsFor h t
-    merged_for = subst (IsFor h) (left_is s m applied alone upto t is) (kept_for next h (record {
+    all_for : IsFor h next
+    all_for = record {
       legal = stands.legal;
       done = stands.done;
       covers = subst (Covers threshold h) (sym layout_merged) (covers_numbered threshold h (record l { levels = moves.levels_then laid }) (count_of next) (is.number + 1) after.covers);
@@ -172,7 +172,11 @@ module _ (h : History) (s : Stored) (coherent : IsCoherent s) (stands : IsFor h 
       clock = stands.clock;
       count = count_merged ∙ stands.count;
       certificate = stands.certificate;
-    }))
+    }
+
+    -- with these, what is stored stands for the history, and so it does without those that are spent, which leave where no other job is in flight
+    pub merged_for : IsFor h t
+    merged_for = subst (IsFor h) (is_renewed company s t is.number is.manifest is.frozen is.active) (renewed_has s t.files is.number company (IsFor h) all_for (kept_for next h))
 
 -- The places of all entries
 

@@ -15,6 +15,10 @@ use Rattle.lethe_stored.specs.Files.{StoredFile, IsFile, lines_in, cited_of, fil
 use Rattle.lethe_stored.specs.Stored.{Stored, layout_of, pending_of, count_of, part_names}
 use Rattle.lethe_version.specs.Order.{is_kept}
 use Rattle.lethe_follows.specs.Filed.{AreInOrder}
+use Rattle.lethe_follows.specs.declared.company.Company as company
+use Rattle.lethe_follows.specs.declared.company.Company.TheVariants as variants
+pub use company.{Company}
+pub use variants.{Last, Beside}
 use Rattle.lethe_follows.specs.Leaving.{first_erase, kept_of}
 use Rattle.lethe_follows.specs.Woven.{AreWovenOf}
 
@@ -84,11 +88,6 @@ pub record AreNewIn (s : Stored) (last : ℕ) (made : List StoredFile) : Type 0 
 -- the pending erases that are still to be done beside these files, and those from the first on that a segment records
 abbrev pub erases_kept : Stored → List StoredFile → List Pending
 erases_kept s files = kept_of (pending_of s) (done_upto (layout_of (record s { files = files }))) (first_erase s)
-
--- whether another job is in flight when one is installed: it is the last, or there is one beside it
-pub data Company : Type 0 where
-  Last : Company
-  Beside : Company
 
 -- The erases that the manifest has then. None leaves beside another job, which may have begun with it.
 abbrev pub erases_with : Company → Stored → List StoredFile → List Pending

@@ -2,6 +2,7 @@
 //! manifests, segments and files. The functions do nothing: their contracts are the laws.
 #![tactic(auto)]
 
+mod company;
 mod journal;
 mod layouts;
 mod leaving;
@@ -10,6 +11,7 @@ mod reads;
 mod steps;
 mod ticks;
 
+pub use company::Company;
 pub use journal::later_stay_recorded;
 pub use layouts::{erases_are_spelled, pending_is_spelled, stored_follows};
 pub use leaving::{done_by_what_is_cited, erases_leave};

@@ -13,19 +13,19 @@ ghost use Rattle.lethe_stored.specs.Stored.{Stored, IsCoherent, appended, count_
 ghost use Rattle.lethe_base.specs.Layout.{files_of};
 ghost use Rattle.lethe_base.specs.Held.{InFiles};
 ghost use Rattle.lethe_follows.specs.Filed.{flushed};
-ghost use Rattle.lethe_follows.specs.Merged.{IsAlone, IsMergeIn, IsMerged, StoredMerge, entries_in, erases_upto, hull_of, inputs_of, with_newer};
+ghost use Rattle.lethe_follows.specs.Merged.{Company, IsAlone, IsMergeIn, IsMergedWith, StoredMerge, entries_in, erases_upto, hull_of, inputs_of, with_newer};
 
-/// With the outputs in the place of the inputs, and without the erases that are done then, what is stored stands for the same history, where the pending erases up to
-/// the place were applied up to which they count as swept. Outputs that are alone have no file below them, and no input is newer than that place.
+/// With the outputs in the place of the inputs, and without the erases that are done then where no other job is in flight, what is stored stands for the same history, where the
+/// pending erases up to the place were applied up to which they count as swept. Outputs that are alone have no file below them, and no input is newer than that place.
 pub fn merge_follows()
-    ensures coherent { (s : Stored) → IsCoherent s → (m : StoredMerge) → IsMergeIn s m → (applied : List Pending) (alone : Bool) (upto : ℕ) (t : Stored)
-        → IsMerged s m applied alone upto t → HasSpelling t.manifest → IsCoherent t }
-    ensures rising { (s : Stored) → IsCoherent s → AreRising s.files → (m : StoredMerge) → IsMergeIn s m → (applied : List Pending) (alone : Bool) (upto : ℕ) (t : Stored)
-        → IsMerged s m applied alone upto t → AreRising t.files }
-    ensures stands { (h : History) (s : Stored) → IsCoherent s → IsFor h s → (m : StoredMerge) → IsMergeIn s m → (alone : Bool)
+    ensures coherent { (company : Company) (s : Stored) → IsCoherent s → (m : StoredMerge) → IsMergeIn s m → (applied : List Pending) (alone : Bool) (upto : ℕ) (t : Stored)
+        → IsMergedWith company s m applied alone upto t → HasSpelling t.manifest → IsCoherent t }
+    ensures rising { (company : Company) (s : Stored) → IsCoherent s → AreRising s.files → (m : StoredMerge) → IsMergeIn s m → (applied : List Pending) (alone : Bool) (upto : ℕ) (t : Stored)
+        → IsMergedWith company s m applied alone upto t → AreRising t.files }
+    ensures stands { (company : Company) (h : History) (s : Stored) → IsCoherent s → IsFor h s → (m : StoredMerge) → IsMergeIn s m → (alone : Bool)
         → (IsTrue alone → IsAlone s m.level (hull_of (inputs_of m))) → (m.level + 1 ≡ s.manifest.config.levels → IsTrue alone)
         → (upto : ℕ) → upto ≤ count_of s → All (λ entry. entry.seq ≤ upto) (entries_in (inputs_of m))
-        → (t : Stored) → IsMerged s m (erases_upto upto (pending_of s)) alone upto t → IsFor h t }
+        → (t : Stored) → IsMergedWith company s m (erases_upto upto (pending_of s)) alone upto t → IsFor h t }
 {}
 
 /// The places of all entries of files are counted.

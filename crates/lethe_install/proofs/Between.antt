@@ -12,15 +12,15 @@ use Rattle.lethe_advance.proofs.Lists.{map-filter}
 use Rattle.lethe_cover.proofs.Common.{⊎_elim}
 use Rattle.lethe_cover.proofs.Lists.{Pairs, pairs_append, pairs_from, pairs_to}
 use Rattle.lethe_flush.specs.declared.made.MadeFiles.{MadeFiles}
-use Rattle.lethe_follows.proofs.LettingGo.{kept_are_erases}
+use Rattle.lethe_follows.specs.Merged.{Company}
 use Rattle.lethe_manifest.specs.Manifests.{HasSpelling, IsFile}
 use Rattle.lethe_manifest.specs.declared.manifest.Cited.{Cited}
 use Rattle.lethe_manifest.specs.declared.manifest.Manifest.{Manifest}
-use Rattle.lethe_state.specs.Left.{done_with, first_recorded}
 use Rattle.lethe_state.specs.Room.{IsStepFrom}
 use Rattle.lethe_state.specs.Writable.{IsWritable, segments_for}
 use Rattle.lethe_state.specs.declared.state.State.{State}
 use Rattle.lethe_state.proofs.FreezeStep.{later_files}
+use Rattle.lethe_state.proofs.Left.{staying_are_erases}
 use Rattle.lethe_stored.specs.Files.{StoredFile, cited_of}
 use Rattle.lethe_stored.proofs.Leveled.{from_filter}
 use Rattle.lethe_install.specs.Installed.{IsInstallStep, installing_manifest}
@@ -113,15 +113,15 @@ module _ (state : State) (is : IsWritable state) (level : ℕ) (inputs : Inputs)
   abbrev last : ℕ
   last = parts.next + 1
 
-  installing_spelled : length files < 2 ^ 32 → HasSpelling (installing_manifest state files parts.next)
-  installing_spelled few = record {
+  installing_spelled : (company : Company) → length files < 2 ^ 32 → HasSpelling (installing_manifest company state files parts.next)
+  installing_spelled company few = record {
     no = omega arith;
     config = (is.manifest).config;
     clock = (is.manifest).clock;
     count = is.count;
     next = omega (arith, fits);
     certificate = (is.manifest).certificate;
-    erases = kept_are_erases (done_with state files) (first_recorded state) state.pending is.pending;
+    erases = staying_are_erases company state files is.pending;
     segments = record {
       some = ((is.manifest).segments).some;
       few = ((is.manifest).segments).few;
@@ -136,11 +136,11 @@ module _ (state : State) (is : IsWritable state) (level : ℕ) (inputs : Inputs)
     };
   }
 
-pub install_from : (state : State) (level : ℕ) (inputs : Inputs) (parts : MadeFiles) (retired : List Name) (needs : Name → Bool) (installing : Installation) → IsWritable state → level ≤ state.manifest.config.levels
+pub install_from : {company : Company} (state : State) (level : ℕ) (inputs : Inputs) (parts : MadeFiles) (retired : List Name) (needs : Name → Bool) (installing : Installation) → IsWritable state → level ≤ state.manifest.config.levels
     → parts.next < max_place → parts.next ≡ state.next + length parts.objects.items → All (IsFile parts.next state.manifest.config.levels) parts.cited.items
-    → All (λ (file : Cited). file.level ≡ level) parts.cited.items → All (λ (new : NewHeader). new.level ≡ level) parts.headers.items → IsInstallStep state level inputs parts retired needs installing
+    → All (λ (file : Cited). file.level ≡ level) parts.cited.items → All (λ (new : NewHeader). new.level ≡ level) parts.headers.items → IsInstallStep company state level inputs parts retired needs installing
     → IsStepFrom (segments_for state.frozen) state installing.headers.items installing.step
-install_from state level inputs parts retired needs installing is low fits drawn each same into made =
+install_from {company = company} state level inputs parts retired needs installing is low fits drawn each same into made =
     let before = is.drawn in
     let later : state.manifest.next ≤ parts.next = omega (arith, before, drawn) in
     let short = subst (λ (m : Manifest). length m.files < 2 ^ 32) made.manifest made.few in
@@ -148,7 +148,7 @@ install_from state level inputs parts retired needs installing is low fits drawn
     let number : installing.step.manifest.no ≡ parts.next = ap (λ (m : Manifest). m.no) made.manifest in
     let last : installing.step.manifest.next ≡ parts.next + 1 = ap (λ (m : Manifest). m.next) made.manifest in
     let levels = state.manifest.config.levels in record {
-      spelled = subst HasSpelling (sym made.manifest) (installing_spelled state is level inputs parts fits later each same short);
+      spelled = subst HasSpelling (sym made.manifest) (installing_spelled state is level inputs parts fits later each same company short);
       segments_are = ap (λ (m : Manifest). length m.segments) made.manifest ∙ is.segments;
       config = ap (λ (m : Manifest). m.config) made.manifest;
       levels = subst (All (λ (new : NewHeader). new.level ≤ levels)) (sym made.headers_are)

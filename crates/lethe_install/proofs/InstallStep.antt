@@ -24,16 +24,17 @@ use Rattle.lethe_build.specs.Drafts.{pages_in}
 use Rattle.lethe_flush.specs.Made.{AreFilesOf, named_of, written_pages}
 use Rattle.lethe_flush.specs.declared.made.MadeFiles.{MadeFiles}
 use Rattle.lethe_flush.proofs.Weaving.{are_woven, files_agree}
-use Rattle.lethe_follows.specs.Merged.{AreNewIn, IsMerged, IsMergeIn, StoredMerge, entries_in, erases_upto, inputs_of, merging_manifest, others_of}
+use Rattle.lethe_follows.specs.Merged.{AreNewIn, Company, IsMergeIn, IsMergedWith, StoredMerge, entries_in, erases_upto, inputs_of, others_of}
 use Rattle.lethe_follows.proofs.MergeFiles.{merged_coherent}
 use Rattle.lethe_follows.proofs.Permuted.{pairs_kept}
+use Rattle.lethe_follows.proofs.Renewed.{renewed}
 use Rattle.lethe_header.specs.declared.header.PageLine.{PageLine}
 use Rattle.lethe_job.specs.Tasks.{IsMergeTask, PlainMerge, merge_inputs}
 use Rattle.lethe_manifest.specs.Manifests.{AreErases, HasSpelling}
 use Rattle.lethe_manifest.specs.declared.manifest.Manifest.{Manifest}
 use Rattle.lethe_merge.specs.Merge.{merged}
 use Rattle.lethe_merge.proofs.Merges.{merged_ascends}
-use Rattle.lethe_state.specs.Left.{kept_with}
+use Rattle.lethe_state.specs.Left.{staying_with}
 use Rattle.lethe_state.specs.Remembered.{IsCurrent, Remembers}
 use Rattle.lethe_state.specs.Writable.{IsWritable}
 use Rattle.lethe_state.specs.declared.state.State.{State}
@@ -54,7 +55,7 @@ use Rattle.lethe_install.proofs.Beside.{placed, placed_from, placed_into, placed
 use Rattle.lethe_install.proofs.Named.{Differ, all_names_are, file_no_page, line_name, name_in, name_kinds, names_are, names_once, number_in, pages_differ}
 use Rattle.lethe_install.proofs.Between.{with_made_laid}
 use Rattle.lethe_install.proofs.NewPages.{all_new, new_between}
-use Rattle.lethe_install.proofs.Keeping.{kept_beside, kept_spelled}
+use Rattle.lethe_install.proofs.Keeping.{staying_beside, staying_spelled}
 
 -- the names of what was written before
 pub zip_firsts : (names : List Name) (pages : List (List ℕ)) → length names ≤ length pages → map name_in (zip names (take (length names) pages)) ≡ names
@@ -80,7 +81,7 @@ page_kind name page = subst (λ kind. (kind ≢ kinds.Gate) × (kind ≢ kinds.M
 pub goes_not : (b : Bool) → not b ≡ true → b ≡ true → ⊥
 goes_not b stays goes = let clash : false ≡ true = ap not (sym goes) ∙ stays in cc
 
-module _ (s : Stored) (state : State) (levels : List (List Parts)) (is : Remembers s state levels) (current : IsCurrent s state) (writable : IsWritable state)
+module _ (company : Company) (s : Stored) (state : State) (levels : List (List Parts)) (is : Remembers s state levels) (current : IsCurrent s state) (writable : IsWritable state)
     (m : StoredMerge) (begun : IsMergeIn s m) (applied : List Pending) (alone : Bool) (upto : ℕ) (retired written : List Name) (drafts : List Draft)
     (drawn : AreDrawn state.next (retired ++ written)) (few : length written ≤ length (pages_in drafts))
     (beside : List (Name × List ℕ)) (named : names_in beside ≡ retired) (uncited : AreUncited s (beside ++ written_pages written drafts))
@@ -100,7 +101,7 @@ module _ (s : Stored) (state : State) (levels : List (List Parts)) (is : Remembe
   files = placed s is.coherent m begun above found.above made are.level_is
 
   abbrev t : Stored
-  t = record { manifest = merging_manifest s files number; frozen = s.frozen; active = s.active; files = files }
+  t = renewed company s files number
 
   abbrev pages : List (Name × List ℕ)
   pages = written_pages written drafts
@@ -192,7 +193,7 @@ module _ (s : Stored) (state : State) (levels : List (List Parts)) (is : Remembe
     pages_once = are.lines_once;
   }
 
-  is_merged : IsMerged s m applied alone upto t
+  is_merged : IsMergedWith company s m applied alone upto t
   is_merged = record {
     made = made;
     number = number;
@@ -223,7 +224,7 @@ module _ (s : Stored) (state : State) (levels : List (List Parts)) (is : Remembe
 
   -- The step
 
-  module _ (needs : Name → Bool) (installing : Installation) (stepped : IsInstallStep state (m.level + 1) inputs parts retired needs installing) (spelled : HasSpelling installing.step.manifest)
+  module _ (needs : Name → Bool) (installing : Installation) (stepped : IsInstallStep company state (m.level + 1) inputs parts retired needs installing) (spelled : HasSpelling installing.step.manifest)
       (paged : All (λ (name : Name). name.kind ≡ kinds.Page) installing.left.items) where
     abbrev headers : List NewHeader
     headers = installing.headers.items
@@ -236,17 +237,17 @@ module _ (s : Stored) (state : State) (levels : List (List Parts)) (is : Remembe
         (λ i. with_made (m.level + 1) (numbers i) above (are.cited i) ((ap (λ (m : Manifest). m.files) is.manifest ∙ (is.coherent).files) i))
         ∙ with_made_laid (m.level + 1) (map number_of (inputs_of m)) above made s.files
 
-    abbrev kept : List Pending
-    kept = kept_with state (map cited_of files)
+    abbrev staying : List Pending
+    staying = staying_with company state (map cited_of files)
 
-    manifest_as_kept : step.manifest ≡ record t.manifest { erases = kept }
-    manifest_as_kept = stepped.manifest ∙ (λ i. record (is.manifest i) { no = number; count = current.count i; next = number + 1; erases = kept_with state (cited_same i); files = cited_same i })
+    manifest_as_stays : step.manifest ≡ record t.manifest { erases = staying }
+    manifest_as_stays = stepped.manifest ∙ (λ i. record (is.manifest i) { no = number; count = current.count i; next = number + 1; erases = staying_with company state (cited_same i); files = cited_same i })
 
     coherent_then : IsCoherent t
-    coherent_then = merged_coherent s is.coherent m applied alone upto t is_merged (kept_spelled s files number (subst AreErases is.pending writable.pending) kept (subst HasSpelling manifest_as_kept spelled))
+    coherent_then = merged_coherent s is.coherent m applied alone upto t is_merged (staying_spelled company s files number (subst AreErases is.pending writable.pending) staying (subst HasSpelling manifest_as_stays spelled))
 
     manifest_is : step.manifest ≡ t.manifest
-    manifest_is = manifest_as_kept ∙ (λ i. record t.manifest { erases = kept_beside s files number state levels is coherent_then i })
+    manifest_is = manifest_as_stays ∙ (λ i. record t.manifest { erases = staying_beside company s files number state levels is coherent_then i })
 
     abbrev goes : StoredFile → Bool
     goes file = is_among (map number_of (inputs_of m)) file.header.no
@@ -509,30 +510,30 @@ module _ (s : Stored) (state : State) (levels : List (List Parts)) (is : Remembe
         (sym (stepped.merged ∙ numbers)) (is_step, left_is, left_drawn)
 
 -- as a task has it
-pub install_steps : (s : Stored) (m : StoredMerge) (state : State) (levels : List (List Parts)) (task : PlainMerge) → Remembers s state levels → IsCurrent s state → IsWritable state
+pub install_steps : (company : Company) (s : Stored) (m : StoredMerge) (state : State) (levels : List (List Parts)) (task : PlainMerge) → Remembers s state levels → IsCurrent s state → IsWritable state
     → IsMergeTask s m task → (retired written : List Name) (drafts : List Draft) → AreDrawn state.next (retired ++ written) → length written ≤ length (pages_in drafts)
     → (beside : List (Name × List ℕ)) → names_in beside ≡ retired → AreUncited s (beside ++ written_pages written drafts)
     → AreDraftsOf s.manifest.config (merged (entries_in (inputs_of m)) (erases_upto task.upto (pending_of s)) task.alone) drafts
     → (parts : MadeFiles) → state.next ≤ parts.next → (made : List StoredFile) → AreFilesOf drafts (task.level + 1) task.upto written state.next parts made
     → (inputs : Inputs) → inputs.numbers.items ≡ map number_of (merge_inputs task) → AreInputs (task.level + 1) task.sources s.files inputs
-    → (needs : Name → Bool) (installing : Installation) → IsInstallStep state (task.level + 1) inputs parts retired needs installing → HasSpelling installing.step.manifest
+    → (needs : Name → Bool) (installing : Installation) → IsInstallStep company state (task.level + 1) inputs parts retired needs installing → HasSpelling installing.step.manifest
     → All (λ (name : Name). name.kind ≡ kinds.Page) installing.left.items
-    → (t : Stored) × IsMerged s m (erases_upto task.upto (pending_of s)) task.alone task.upto t
+    → (t : Stored) × IsMergedWith company s m (erases_upto task.upto (pending_of s)) task.alone task.upto t
     × IsStep s (beside ++ written_pages written drafts) t (left_of needs (numbered installing.step.merged.items s.files) beside) installing.headers.items installing.step
     × (installing.left.items ≡ names_in (left_of needs (numbered installing.step.merged.items s.files) beside)) × AreDrawn installing.step.manifest.next installing.left.items
     × AreFirst written s t
-install_steps s m state levels task is current writable begun retired written drafts drawn few beside named uncited of parts risen made are inputs numbers found needs installing stepped spelled paged =
+install_steps company s m state levels task is current writable begun retired written drafts drawn few beside named uncited of parts risen made are inputs numbers found needs installing stepped spelled paged =
     let numbers_are = numbers ∙ (λ i. map number_of (begun.sources i ++ begun.met i)) in
     let of_level = subst (λ l. AreFilesOf drafts (l + 1) task.upto written state.next parts made) begun.level are in
     let inputs_are = subst (λ l. AreInputs (l + 1) m.sources s.files inputs) begun.level (subst (λ sources. AreInputs (task.level + 1) sources s.files inputs) begun.sources found) in
-    let made_step = subst (λ l. IsInstallStep state (l + 1) inputs parts retired needs installing) begun.level stepped in
+    let made_step = subst (λ l. IsInstallStep company state (l + 1) inputs parts retired needs installing) begun.level stepped in
     let applied = erases_upto task.upto (pending_of s) in
-    let settled = step_and_left s state levels is current writable m begun.merge applied task.alone task.upto retired written drafts drawn few beside named uncited of parts risen made of_level inputs numbers_are inputs_are
+    let settled = step_and_left company s state levels is current writable m begun.merge applied task.alone task.upto retired written drafts drawn few beside named uncited of parts risen made of_level inputs numbers_are inputs_are
     needs installing made_step spelled paged in (
-      t s state levels is current writable m begun.merge applied task.alone task.upto retired written drafts drawn few beside named uncited of parts risen made of_level inputs numbers_are inputs_are,
-      is_merged s state levels is current writable m begun.merge applied task.alone task.upto retired written drafts drawn few beside named uncited of parts risen made of_level inputs numbers_are inputs_are,
+      t company s state levels is current writable m begun.merge applied task.alone task.upto retired written drafts drawn few beside named uncited of parts risen made of_level inputs numbers_are inputs_are,
+      is_merged company s state levels is current writable m begun.merge applied task.alone task.upto retired written drafts drawn few beside named uncited of parts risen made of_level inputs numbers_are inputs_are,
       settled.0,
       settled.1,
       settled.2,
-      firsts s state levels is current writable m begun.merge applied task.alone task.upto retired written drafts drawn few beside named uncited of parts risen made of_level inputs numbers_are inputs_are,
+      firsts company s state levels is current writable m begun.merge applied task.alone task.upto retired written drafts drawn few beside named uncited of parts risen made of_level inputs numbers_are inputs_are,
     )

@@ -10,6 +10,7 @@ use Rattle.lethe_cover.proofs.Common.{first_is}
 use Rattle.lethe_cover.proofs.Lists.{in_middle, map_from}
 use Rattle.lethe_file.specs.Agreement.{entries_in}
 use Rattle.lethe_flush.specs.declared.made.MadeFiles.{MadeFiles}
+use Rattle.lethe_follows.specs.Merged.{Company}
 use Rattle.lethe_header.specs.declared.header.Header.{Header}
 use Rattle.lethe_job.specs.SweepTasks.{IsSweepTask}
 use Rattle.lethe_manifest.specs.Manifests.{HasSpelling}
@@ -27,7 +28,7 @@ use Rattle.lethe_sweep_task.specs.Outcome.{IsDraftLeft, PlainSweep}
 use Rattle.lethe_swept.specs.declared.draft.SweptDraft.{SweptDraft}
 use Rattle.lethe_sweeps.specs.Swept.{StoredSweep}
 use Rattle.lethe_install.specs.Installed.{IsInstallStep}
-use Rattle.lethe_install.specs.Outcomes.{AreFirst, IsSweepInstalled}
+use Rattle.lethe_install.specs.Outcomes.{AreFirst, IsSweepInstalledWith}
 use Rattle.lethe_install.specs.Replaced.{IsReplaced}
 use Rattle.lethe_install.specs.declared.inputs.Inputs.{Inputs}
 use Rattle.lethe_install.specs.declared.steps.Installation.{Installation}
@@ -44,14 +45,14 @@ replaced_is file header made heads cited files inputs of_header of_made of_cited
     (subst (λ (l : List NewHeader). IsReplaced (record file { header = header }) l files inputs) of_made
     (subst (λ (l : List Cited). IsReplaced (record file { header = header }) made l inputs) of_cited is))
 
-module _ (draft_is_left : DraftIsLeft) (nothing_is_left : NothingIsLeft) (s : Stored) (state : State) (levels : List (List Parts))
+module _ (draft_is_left : DraftIsLeft) (nothing_is_left : NothingIsLeft) (company : Company) (s : Stored) (state : State) (levels : List (List Parts))
     (is : Remembers s state levels) (current : IsCurrent s state) (writable : IsWritable state) (w : StoredSweep) (task : PlainSweep) (begun : IsSweepTask s w task) (behind : IsBehind task.erase task.file.header.tiles)
     (retired written : List Name) (draft : Option SweptDraft) (drawn : AreDrawn state.next (retired ++ written)) (few : length written ≤ length (new_pages draft))
     (beside : List (Name × List ℕ)) (named : names_in beside ≡ retired) (uncited : AreUncited s (beside ++ written_pages written draft))
     (of : IsDraftLeft task.alone task.erase w.file.header.tiles (map entries_in w.file.pages) draft)
     (parts : MadeFiles) (inputs : Inputs) (are : AreMadeOf task.file.level task.erase.seq written state.next draft parts)
     (replaced : IsReplaced task.file parts.headers.items state.manifest.files inputs) (needs : Name → Bool) (installing : Installation)
-    (stepped : IsInstallStep state task.file.level inputs parts retired needs installing) (spelled : HasSpelling installing.step.manifest)
+    (stepped : IsInstallStep company state task.file.level inputs parts retired needs installing) (spelled : HasSpelling installing.step.manifest)
     (paged : All (λ (name : Name). name.kind ≡ Page) installing.left.items) where
   abbrev pages : List (Name × List ℕ)
   pages = written_pages written draft
@@ -75,14 +76,14 @@ module _ (draft_is_left : DraftIsLeft) (nothing_is_left : NothingIsLeft) (s : St
   of_file : AreMadeOf w.file.level task.erase.seq written state.next draft parts
   of_file = subst (λ (file : StoredFile). AreMadeOf file.level task.erase.seq written state.next draft parts) (sym begun.file) are
 
-  pub sweep_installs : (t : Stored) × IsSweepInstalled s task t
+  pub sweep_installs : (t : Stored) × IsSweepInstalledWith company s task t
       × ((left : List (Name × List ℕ)) × IsStep s (beside ++ pages) t left installing.headers.items installing.step × (installing.left.items ≡ names_in left)
       × AreDrawn installing.step.manifest.next installing.left.items)
       × AreFirst written s t
   sweep_installs =
       let have = made_for draft_is_left nothing_is_left s is.coherent w own task.erase task.alone
       (subst (λ (file : StoredFile). IsBehind task.erase file.header.tiles) (sym begun.file) behind) state.next later written (drawn_behind state.next retired written drawn) written_uncited draft of few parts of_file in
-      let found = sweep_installed s state levels is current writable w task.erase task.alone begun.sweep retired written drawn beside pages named pages_named uncited
+      let found = sweep_installed company s state levels is current writable w task.erase task.alone begun.sweep retired written drawn beside pages named pages_named uncited
       parts have inputs (subst (λ (file : StoredFile). IsReplaced file parts.headers.items state.manifest.files inputs) (sym begun.file) replaced) needs installing
-      (subst (λ (file : StoredFile). IsInstallStep state file.level inputs parts retired needs installing) (sym begun.file) stepped) spelled paged in
+      (subst (λ (file : StoredFile). IsInstallStep company state file.level inputs parts retired needs installing) (sym begun.file) stepped) spelled paged in
       (found.0, record { w = w; tasked = begun; swept_is = found.1.0; file_left = found.1.1 }, found.2, found.3)

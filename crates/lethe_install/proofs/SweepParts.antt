@@ -1,23 +1,27 @@
 -- What is promised of the parts of a sweep's file, on any disk.
-use Rattle.std.proofs.Common.{◌≡◌, ◌≤◌, ◌+◌, ◌-◌, ℕ, List, length, length-drop, map, drop, All, Option, Some, None, refl, sym, ap, ◌∙◌, arith}
+use Rattle.std.proofs.Common.{◌≡◌, ◌≤◌, ◌+◌, ◌-◌, inl, inr, ℕ, List, length, length-drop, map, drop, All, Contains, Option, Some, None, refl, sym, ap, ◌∙◌, subst, arith}
 use Rattle.std.specs.Prelude.{zip}
 use Rattle.std.specs.List.{range_with_len}
 use Rattle.std.proofs.lemmas.List.{length-map}
 use Rattle.std.proofs.lemmas.List.FromFn.{length-range_with_len}
 use Rattle.sha2.proofs.Facts256.{length-sha256}
+use Rattle.lethe_advance.specs.Object.{Object}
 use Rattle.lethe_advance.specs.declared.new_header.NewHeader.{NewHeader}
 use Rattle.lethe_base.specs.Limits.{max_place}
 use Rattle.lethe_base.specs.declared.name.Name.{Name}
+use Rattle.lethe_cover.proofs.Common.{first_or_rest}
+use Rattle.lethe_cover.proofs.Lists.{all_from, in_map, map_from}
 use Rattle.lethe_file.specs.Agreement.{page_name}
 use Rattle.lethe_flush.specs.Made.{named_of}
 use Rattle.lethe_flush.specs.declared.made.MadeFiles.{MadeFiles}
-use Rattle.lethe_flush.proofs.Numbers.{no_of, numbers_zip}
+use Rattle.lethe_flush.proofs.Numbers.{no_of, numbers_zip, range_from}
 use Rattle.lethe_header.specs.Headers as headers
 use Rattle.lethe_header.specs.Headers.{header_bytes}
 use Rattle.lethe_manifest.specs.Manifests.{IsFile}
 use Rattle.lethe_manifest.specs.declared.manifest.Cited.{Cited}
-use Rattle.lethe_remade.specs.Making.{AreMadeOf, IsMadeOf, header_by}
+use Rattle.lethe_remade.specs.Making.{AreMadeOf, IsMadeOf, count_unwritten, header_by}
 use Rattle.lethe_state.proofs.Shared.{none_all, one_all}
+use Rattle.lethe_stored.proofs.Lists.{zip_left}
 use Rattle.lethe_sweep_task.specs.Drafted.{new_pages, numbers_of}
 use Rattle.lethe_swept.specs.declared.draft.SweptDraft.{SweptDraft}
 
@@ -77,3 +81,17 @@ module _ (level upto : ℕ) (written : List Name) (first : ℕ) where
       let next = are.next in
       one_all (IsFile made.next levels) _ made.cited.items are.cited
       (record { level = fits; no = omega (arith, next); swept = low; digest = length-sha256 (header_bytes (header_by written first draft)) })
+
+  -- each object has a number from the first on
+  pub parts_fresh : (draft : Option SweptDraft) (made : MadeFiles) → AreMadeOf level upto written first draft made → All (λ object. first ≤ object.name.no) made.objects.items
+  parts_fresh None made are = none_all (λ (object : Object). first ≤ object.name.no) made.objects.items are.objects
+  parts_fresh (Some draft) made are = all_from (λ (object : Object). first ≤ object.name.no) made.objects.items (λ object there.
+      elim (first_or_rest _ _ (named_of object) (subst (λ l. Contains l (named_of object)) are.objects (in_map named_of made.objects.items object there))) [
+        | inl header ↦ let same = ap no_of header in omega (arith, same)
+        | inr page ↦
+            let numbers = range_with_len first (count_unwritten written draft) in
+            let found = map_from page_name numbers object.name (zip_left (map page_name numbers) (drop (length written) draft.pages) (named_of object) page) in
+            let low = (range_from first (count_unwritten written draft) found.0 found.1).0 in
+            let same = ap (λ (name : Name). name.no) found.2 in
+            omega (arith, low, same)
+      ])

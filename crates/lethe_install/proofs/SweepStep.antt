@@ -21,12 +21,13 @@ use Rattle.lethe_cover.proofs.Common.{⊎_elim, first_is}
 use Rattle.lethe_cover.proofs.Lists.{Pairs, all_from, flat_from, flat_in, in_map, in_middle, in_rest, map_from, pairs_append, pairs_from, pairs_parts, pairs_to}
 use Rattle.lethe_flush.specs.Made.{named_of}
 use Rattle.lethe_flush.specs.declared.made.MadeFiles.{MadeFiles}
-use Rattle.lethe_follows.specs.Merged.{merging_manifest}
+use Rattle.lethe_follows.specs.Merged.{Company}
+use Rattle.lethe_follows.proofs.Renewed.{renewed}
 use Rattle.lethe_header.specs.declared.header.PageLine.{PageLine}
 use Rattle.lethe_manifest.specs.Manifests.{AreErases, HasSpelling}
 use Rattle.lethe_manifest.specs.declared.manifest.Cited.{Cited}
 use Rattle.lethe_manifest.specs.declared.manifest.Manifest.{Manifest}
-use Rattle.lethe_state.specs.Left.{kept_with}
+use Rattle.lethe_state.specs.Left.{staying_with}
 use Rattle.lethe_state.specs.Remembered.{IsCurrent, Remembers}
 use Rattle.lethe_state.specs.Writable.{IsWritable}
 use Rattle.lethe_state.specs.declared.state.State.{State}
@@ -35,7 +36,7 @@ use Rattle.lethe_stored.specs.Files.{Parts, StoredFile, IsFile, cited_of, file_n
 use Rattle.lethe_stored.specs.Stored.{Stored, IsCited, IsCoherent, part_names, segment_name, segment_numbers}
 use Rattle.lethe_stored.proofs.Leveled.{from_filter, in_filter}
 use Rattle.lethe_stored.proofs.Parts.{object_part, part_below, part_kind}
-use Rattle.lethe_sweeps.specs.Swept.{IsSweepIn, IsSwept, StoredSweep, files_then}
+use Rattle.lethe_sweeps.specs.Swept.{IsSweepIn, IsSweptWith, StoredSweep, files_then}
 use Rattle.lethe_sweeps.specs.SweptSteps.{IsSweepStep}
 use Rattle.lethe_sweeps.proofs.SweptFiles.{swept_coherent}
 use Rattle.lethe_sweeps.proofs.SweptStepping.{sweep_steps}
@@ -49,7 +50,7 @@ use Rattle.lethe_install.specs.declared.inputs.Inputs.{Inputs}
 use Rattle.lethe_install.specs.declared.steps.Installation.{Installation}
 use Rattle.lethe_install.proofs.InPlace.{in_place}
 use Rattle.lethe_install.proofs.InstallStep.{goes_not, page_kind, page_no_segment, segment_no_file, segment_no_page}
-use Rattle.lethe_install.proofs.Keeping.{kept_beside, kept_spelled}
+use Rattle.lethe_install.proofs.Keeping.{staying_beside, staying_spelled}
 use Rattle.lethe_install.proofs.Named.{Differ, file_no_page, line_name, name_in, name_kinds, name_self, names_are, number_in, own_names}
 use Rattle.lethe_install.proofs.NewPages.{new_between}
 use Rattle.lethe_install.proofs.Parted.{same_name}
@@ -75,7 +76,7 @@ names_apart a b other lines name left right = ⊎_elim
     (name_kinds b name right))
     (name_kinds a name left)
 
-module _ (s : Stored) (state : State) (levels : List (List Parts)) (is : Remembers s state levels) (current : IsCurrent s state) (writable : IsWritable state)
+module _ (company : Company) (s : Stored) (state : State) (levels : List (List Parts)) (is : Remembers s state levels) (current : IsCurrent s state) (writable : IsWritable state)
     (w : StoredSweep) (erase : Pending) (alone : Bool) (begun : IsSweepIn s w erase alone) (retired written : List Name) (drawn : AreDrawn state.next (retired ++ written))
     (beside pages : List (Name × List ℕ)) (named : names_in beside ≡ retired) (pages_named : names_in pages ≡ written) (uncited : AreUncited s (beside ++ pages))
     (parts : MadeFiles) (have : IsMadeFor s w erase alone state.next pages parts)
@@ -90,7 +91,7 @@ module _ (s : Stored) (state : State) (levels : List (List Parts)) (is : Remembe
   files = files_then w have.made
 
   abbrev t : Stored
-  t = record { manifest = merging_manifest s files number; frozen = s.frozen; active = s.active; files = files }
+  t = renewed company s files number
 
   abbrev loose : List (Name × List ℕ)
   loose = beside ++ pages
@@ -98,7 +99,7 @@ module _ (s : Stored) (state : State) (levels : List (List Parts)) (is : Remembe
   drawn_before : s.manifest.next ≤ state.next
   drawn_before = let fits = writable.drawn in let same = ap (λ (m : Manifest). m.next) is.manifest in omega (arith, fits, same)
 
-  is_swept : IsSwept s w erase alone t
+  is_swept : IsSweptWith company s w erase alone t
   is_swept = record {
     made = have.made;
     number = number;
@@ -310,7 +311,7 @@ module _ (s : Stored) (state : State) (levels : List (List Parts)) (is : Remembe
 
   -- The step
 
-  module _ (needs : Name → Bool) (installing : Installation) (stepped : IsInstallStep state w.file.level inputs parts retired needs installing)
+  module _ (needs : Name → Bool) (installing : Installation) (stepped : IsInstallStep company state w.file.level inputs parts retired needs installing)
       (spelled : HasSpelling installing.step.manifest) (paged : All (λ (name : Name). name.kind ≡ kinds.Page) installing.left.items) where
     abbrev headers : List NewHeader
     headers = installing.headers.items
@@ -326,19 +327,19 @@ module _ (s : Stored) (state : State) (levels : List (List Parts)) (is : Remembe
         (λ i. with_made w.file.level (replaced.numbers i) (above_is i) (have.cited i) (is.manifest i).files)
         ∙ in_place s is.coherent w begun.files made
 
-    abbrev kept : List Pending
-    kept = kept_with state (map cited_of files)
+    abbrev staying : List Pending
+    staying = staying_with company state (map cited_of files)
 
-    manifest_as_kept : step.manifest ≡ record t.manifest { erases = kept }
-    manifest_as_kept = stepped.manifest
-        ∙ (λ i. record (is.manifest i) { no = number; count = current.count i; next = number + 1; erases = kept_with state (cited_same i); files = cited_same i })
+    manifest_as_stays : step.manifest ≡ record t.manifest { erases = staying }
+    manifest_as_stays = stepped.manifest
+        ∙ (λ i. record (is.manifest i) { no = number; count = current.count i; next = number + 1; erases = staying_with company state (cited_same i); files = cited_same i })
 
     coherent_then : IsCoherent t
     coherent_then = swept_coherent s is.coherent w erase alone begun t is_swept
-        (kept_spelled s files number (subst AreErases is.pending writable.pending) kept (subst HasSpelling manifest_as_kept spelled))
+        (staying_spelled company s files number (subst AreErases is.pending writable.pending) staying (subst HasSpelling manifest_as_stays spelled))
 
     manifest_is : step.manifest ≡ t.manifest
-    manifest_is = manifest_as_kept ∙ (λ i. record t.manifest { erases = kept_beside s files number state levels is coherent_then i })
+    manifest_is = manifest_as_stays ∙ (λ i. record t.manifest { erases = staying_beside company s files number state levels is coherent_then i })
 
     -- what goes, and what is left
 
@@ -515,7 +516,7 @@ module _ (s : Stored) (state : State) (levels : List (List Parts)) (is : Remembe
           ∙ have.firsts);
     }
 
-    pub sweep_installed : (t : Stored) × ((is : IsSwept s w erase alone t) × IsFileLeft s w.file erase alone is.number is.made)
+    pub sweep_installed : (t : Stored) × ((is : IsSweptWith company s w erase alone t) × IsFileLeft s w.file erase alone is.number is.made)
         × ((left : List (Name × List ℕ)) × IsStep s loose t left headers step × (installing.left.items ≡ names_in left) × AreDrawn step.manifest.next installing.left.items)
         × AreFirst written s t
     unfolding is_swept

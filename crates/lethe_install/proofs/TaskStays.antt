@@ -1,19 +1,16 @@
 -- A task stays one while the outcome of another is installed beside it, whose claim doesn't meet its own.
-use Rattle.std.proofs.Common.{◌≡◌, ℕ, Bool, false, List, ◌++◌, sym, ap, ◌∙◌, subst, arith, refl}
-use Rattle.std.specs.Prelude.{filter_map}
-use Rattle.std.proofs.lemmas.List.Elements.{Contains-append_right}
-use Rattle.lethe_base.specs.declared.pending.Pending.{Pending}
+use Rattle.std.proofs.Common.{◌≡◌, ℕ, false, ◌++◌, sym, ap, ◌∙◌, subst}
 use Rattle.lethe_fade.specs.Claims.{claim_at, claim_over, meets}
 use Rattle.lethe_fade.specs.declared.claim.Claim.{Claim}
-use Rattle.lethe_follows.specs.Merged.{Beside, Company, IsMerged, IsMergedWith, StoredMerge, erases_upto, inputs_of, merging_manifest, merging_manifest_with}
-use Rattle.lethe_follows.proofs.Erases.{in_order_again}
+use Rattle.lethe_follows.specs.Merged.{Beside, StoredMerge, erases_upto, inputs_of, merging_manifest_with}
 use Rattle.lethe_follows.proofs.MergeRising.{merged_rises}
+use Rattle.lethe_follows.proofs.Renewed.{all_pending, is_renewed, renewed}
 use Rattle.lethe_manifest.specs.declared.manifest.Manifest.{Manifest}
 use Rattle.lethe_stored.specs.Files.{StoredFile}
 use Rattle.lethe_stored.specs.Levels.{AreRising}
-use Rattle.lethe_stored.specs.Stored.{Stored, IsCoherent, count_of, erase_of, in_order, pending_of, records_in, records_of}
+use Rattle.lethe_stored.specs.Stored.{Stored, IsCoherent, count_of, pending_of}
 use Rattle.lethe_sweep_task.specs.Outcome.{PlainSweep}
-use Rattle.lethe_sweeps.specs.Swept.{IsSwept, IsSweptWith, StoredSweep}
+use Rattle.lethe_sweeps.specs.Swept.{StoredSweep}
 use Rattle.lethe_sweeps.proofs.SweptRising.{swept_rises}
 use Rattle.lethe_job.specs.Chosen.{hull_in, range_in}
 use Rattle.lethe_job.specs.Claims.{claim_of_task}
@@ -24,6 +21,7 @@ use Rattle.lethe_install.specs.Outcomes.{IsInstalledWith, IsMergeInstalledWith, 
 use Rattle.lethe_install.proofs.MergeStays.{merge_stays, merge_then}
 use Rattle.lethe_install.proofs.MergeSwaps.{merge_swaps}
 use Rattle.lethe_install.proofs.OtherStep.{IsStep}
+use Rattle.lethe_install.proofs.Remembering.{count_renewed}
 use Rattle.lethe_install.proofs.SweepStays.{sweep_stays, sweep_then}
 use Rattle.lethe_install.proofs.SweepSwaps.{sweep_swaps}
 
@@ -48,47 +46,14 @@ either_stays s t (Sweeps task) claim coherent after step is apart =
 -- The manifest beside another job
 
 module _ (s t : Stored) (number : ℕ) (manifest : t.manifest ≡ merging_manifest_with Beside s t.files number) (frozen : t.frozen ≡ s.frozen) (active : t.active ≡ s.active) where
-  abbrev recorded : List Pending
-  recorded = filter_map erase_of (records_of s)
+  same_stored : renewed Beside s t.files number ≡ t
+  same_stored = is_renewed Beside s t number manifest frozen active
 
   same_pending : pending_of t ≡ pending_of s
-  same_pending = (λ i. in_order ((manifest i).erases ++ filter_map erase_of (records_in (frozen i) ++ (active i).records)))
-      ∙ in_order_again (s.manifest.erases ++ recorded) recorded (λ erase there. Contains-append_right s.manifest.erases recorded erase there)
-
-  abbrev renewed : Stored
-  renewed = record { manifest = merging_manifest_with Beside s t.files number; frozen = s.frozen; active = s.active; files = t.files }
-
-  count_renewed : count_of renewed ≡ count_of s
-  count_renewed = omega arith
+  same_pending = ap pending_of (sym same_stored) ∙ all_pending s t.files number
 
   same_count : count_of t ≡ count_of s
-  same_count = (λ i. count_of (record { manifest = manifest i; frozen = frozen i; active = active i; files = t.files })) ∙ count_renewed
-
--- the same files behind the last job
-module _ (company : Company) (s t : Stored) where
-  abbrev as_last : ℕ → Stored
-  as_last number = record t { manifest = merging_manifest s t.files number }
-
-  last_merged : (m : StoredMerge) (applied : List Pending) (alone : Bool) (upto : ℕ) (is : IsMergedWith company s m applied alone upto t) → IsMerged s m applied alone upto (as_last is.number)
-  last_merged m applied alone upto is = record {
-    made = is.made;
-    number = is.number;
-    later = is.later;
-    manifest = refl;
-    frozen = is.frozen;
-    active = is.active;
-    files = is.files;
-    from = is.from;
-    into = is.into;
-    rest = is.rest;
-    level = is.level;
-    new = is.new;
-    order = is.order;
-    woven = is.woven;
-  }
-
-  last_swept : (w : StoredSweep) (erase : Pending) (alone : Bool) (is : IsSweptWith company s w erase alone t) → IsSwept s w erase alone (as_last is.number)
-  last_swept w erase alone is = record { made = is.made; number = is.number; later = is.later; files = is.files; manifest = refl; frozen = is.frozen; active = is.active; left = is.left }
+  same_count = ap count_of (sym same_stored) ∙ count_renewed Beside s t.files number
 
 -- Beside either
 
@@ -104,7 +69,7 @@ module _ (s t : Stored) (task : PlainTask) (coherent : IsCoherent s) (rising : A
         config = ap (λ (manifest : Manifest). manifest.config) merged.manifest;
         pending = same_pending s t merged.number merged.manifest merged.frozen merged.active;
         count = same_count s t merged.number merged.manifest merged.frozen merged.active;
-        rising = merged_rises s coherent rising m begun applied other.alone other.upto (as_last Beside s t merged.number) (last_merged Beside s t m applied other.alone other.upto merged);
+        rising = merged_rises s coherent rising m begun applied other.alone other.upto t merged;
       }) is (subst (λ claim. meets claim (claim_of_task task) ≡ false) (merge_claims s m other installed.tasked) apart)
 
   beside_sweep : (other : PlainSweep) → IsSweepInstalledWith Beside s other t → meets (claim_of_task (Sweeps other)) (claim_of_task task) ≡ false → IsTaskFor t task
@@ -117,7 +82,7 @@ module _ (s t : Stored) (task : PlainTask) (coherent : IsCoherent s) (rising : A
         config = ap (λ (manifest : Manifest). manifest.config) swept.manifest;
         pending = same_pending s t swept.number swept.manifest swept.frozen swept.active;
         count = same_count s t swept.number swept.manifest swept.frozen swept.active;
-        rising = swept_rises s coherent rising w other.erase other.alone begun (as_last Beside s t swept.number) (last_swept Beside s t w other.erase other.alone swept);
+        rising = swept_rises s coherent rising w other.erase other.alone begun t swept;
       }) is (subst (λ claim. meets claim (claim_of_task task) ≡ false) (sweep_claims s w other installed.tasked) apart)
 
 pub stays_beside : (s t : Stored) (task other : PlainTask) → IsCoherent s → AreRising s.files → IsTaskFor s task → meets (claim_of_task other) (claim_of_task task) ≡ false

@@ -1,8 +1,8 @@
 //! What is true once a job's outcome is installed: what a store remembers, and that another job's task stays one. The functions do nothing: their contracts are the laws.
 ghost use Rattle.std.specs.Prelude.{◌≡◌, List, false};
 ghost use Rattle.lethe_fade.specs.Claims.{meets};
-ghost use Rattle.lethe_follows.specs.Merged.{Beside};
-ghost use Rattle.lethe_install.specs.Outcomes.{IsInstalled, IsInstalledWith};
+ghost use Rattle.lethe_follows.specs.Merged.{Beside, Company};
+ghost use Rattle.lethe_install.specs.Outcomes.{IsInstalledWith};
 ghost use Rattle.lethe_job.specs.Claims.{claim_of_task};
 ghost use Rattle.lethe_job.specs.Works.{IsTaskFor, PlainTask};
 ghost use Rattle.lethe_manifest.specs.Manifests.{HasSpelling};
@@ -15,9 +15,9 @@ ghost use Rattle.lethe_stored.specs.Stored.{Stored, IsCoherent};
 
 /// Under the manifest of a job's outcome what is stored next is remembered: the erases that it keeps are pending, and the buffers are as they were.
 pub fn install_is_remembered()
-    ensures { (s t : Stored) (task : PlainTask) (state : State) (levels next : List (List Parts)) → Remembers s state levels → IsCurrent s state
-        → IsInstalled s task t → HasSpelling t.manifest → IsCoherent t → HasFiles t next
-        → Remembers t (installed t.manifest state) next × IsCurrent t (installed t.manifest state) }
+    ensures { (company : Company) (s t : Stored) (task : PlainTask) (state : State) (levels next : List (List Parts)) → Remembers s state levels → IsCurrent s state
+        → IsInstalledWith company s task t → HasSpelling t.manifest → IsCoherent t → HasFiles t next
+        → Remembers t (installed company t.manifest state) next × IsCurrent t (installed company t.manifest state) }
 {}
 
 /// A task stays one while the outcome of another is installed beside it whose claim doesn't meet its own. It wouldn't where erases leave that it applies.

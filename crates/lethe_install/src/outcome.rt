@@ -9,7 +9,7 @@ ghost use Rattle.lethe_advance.specs.Settled.{AreDrawn, AreUncited, names_in};
 ghost use Rattle.lethe_advance.specs.Shown.{parts_by_level};
 ghost use Rattle.lethe_advance.specs.Steps.{IsStep};
 ghost use Rattle.lethe_header.specs.Headers as headers;
-ghost use Rattle.lethe_install.specs.Outcomes.{AreFirst, IsInstalled, level_made};
+ghost use Rattle.lethe_install.specs.Outcomes.{AreFirst, IsInstalledWith, level_made};
 ghost use Rattle.lethe_job.specs.MadeOf.{numbers_in, pages_of, written_of};
 ghost use Rattle.lethe_job.specs.Works.{AreOutputs, IsInLevels, IsTaskFor, applied_upto, plain_task};
 ghost use Rattle.lethe_pins.specs.Held.{is_named};
@@ -23,13 +23,14 @@ use crate::steps::{Installation, Pages, installing_merge};
 use crate::sweeping::installing_sweep;
 use lethe_base::{Name, Refused};
 use lethe_disk::Disk;
+use lethe_follows::Company;
 use lethe_job::{Made, Task};
 use lethe_pins::Pins;
 use lethe_state::State;
 use lethe_version::Version;
 use std::alloc::Global;
 
-/// What installs what a job made: the step writes what isn't written of it yet, cites it in the place of what goes, lets the erases go that are done then, and removes those of the
+/// What installs what a job made: the step writes what isn't written of it yet, cites it in the place of what goes, lets the erases go that are done then where no other job is in flight, and removes those of the
 /// objects that no file has any more and of the pages that were retired before that no held pin names. The first of the pages were written before, under these names; for the other pages, the headers and
 /// the manifest numbers are drawn.
 ///
@@ -38,6 +39,7 @@ use std::alloc::Global;
 /// `Exhausted` where these numbers have run out, or `NoMemory`, also where a manifest would have 2^32 files.
 pub fn installing<D: Disk>(
     alloc: Global,
+    company: Company,
     state: &State,
     version: &Version<D>,
     task: &Task<D>,
@@ -61,6 +63,7 @@ pub fn installing<D: Disk>(
     ensures step { IfOk result (λ made. IsStepFrom (segments_for state.now.frozen) state.now made.headers.items made.step) }
     ensures level { IfOk result (λ made. All (λ new. new.level ≡ level_made (plain_task task.now)) made.headers.items) }
     ensures objects { IfOk result (λ installation. length installation.step.objects.items ≡ numbers_in made - length written.now) }
+    ensures fresh { IfOk result (λ made. All (λ object. state.now.next ≤ object.name.no) made.step.objects.items) }
     ensures named { IfOk result (λ made. All (λ name. IsTrue (is_named pins.now.pins name)) made.left.items) }
     ensures gone { IfOk result (λ made. All (λ name. is_named pins.now.pins name ≡ false) made.step.gone.items) }
     ensures pages { IfOk result (λ made. All (λ name. name.kind ≡ Page) made.left.items) }
@@ -69,7 +72,7 @@ pub fn installing<D: Disk>(
     ensures installs { D.tells → (s : Stored) (beside : prelude.List (name.Name × prelude.List ℕ)) → Remembers s state.now (parts_by_level version.now) → IsCurrent s state.now
         → AreRising s.files → IsTaskFor s (plain_task task.now) → names_in beside ≡ retired.now → AreUncited s (beside ++ written_of written.now made)
         → AreDrawn state.now.next (retired.now ++ written.now)
-        → IfOk result (λ installation. (t : Stored) × IsInstalled s (plain_task task.now) t
+        → IfOk result (λ installation. (t : Stored) × IsInstalledWith company s (plain_task task.now) t
         × ((left : prelude.List (name.Name × prelude.List ℕ)) × IsStep s (beside ++ written_of written.now made) t left installation.headers.items installation.step × (installation.left.items ≡ names_in left)
         × AreDrawn installation.step.manifest.next installation.left.items) × AreFirst written.now s t) }
 {
@@ -80,11 +83,13 @@ pub fn installing<D: Disk>(
     };
     match task {
         Task::Merge(task) => match made {
-            Made::Files(drafts) => installing_merge(alloc, state, version, task, drafts, pages),
+            Made::Files(drafts) => installing_merge(
+                alloc, company, state, version, task, drafts, pages,
+            ),
             Made::Left(_) => unreachable!(),
         },
         Task::Sweep(task) => match made {
-            Made::Left(draft) => installing_sweep(alloc, state, task, draft, pages),
+            Made::Left(draft) => installing_sweep(alloc, company, state, task, draft, pages),
             Made::Files(_) => unreachable!(),
         },
     }

@@ -11,7 +11,7 @@ ghost use Rattle.lethe_advance.specs.Steps.{IsStep};
 ghost use Rattle.lethe_build.specs.Drafts.{AreDraftsOf, IsDraft, numbers_for};
 ghost use Rattle.lethe_build.specs.Drafts.{pages_in};
 ghost use Rattle.lethe_flush.specs.Made.{written_pages};
-ghost use Rattle.lethe_follows.specs.Merged.{IsMerged, StoredMerge, entries_in, erases_upto, inputs_of};
+ghost use Rattle.lethe_follows.specs.Merged.{IsMergedWith, StoredMerge, entries_in, erases_upto, inputs_of};
 ghost use Rattle.lethe_header.specs.Headers as headers;
 ghost use Rattle.lethe_install.specs.Inputs.{numbered};
 ghost use Rattle.lethe_install.specs.Installed.{IsInstallStep};
@@ -34,6 +34,7 @@ use lethe_base::{List, MAX_PLACE, Name, NoMemory, Refused};
 use lethe_build::{Draft, numbers_for};
 use lethe_disk::Disk;
 use lethe_flush::{MadeFiles, make_files};
+use lethe_follows::Company;
 use lethe_job::MergeTask;
 use lethe_manifest::Change;
 use lethe_pins::Pins;
@@ -62,7 +63,7 @@ pub(crate) struct Pages<'a> {
     pub(crate) pins: &'a Pins,
 }
 
-/// What installs a merge's outputs: the step writes what isn't written of them yet, cites them in the place of the inputs, lets the erases go that are done then, and removes what no held pin names of these and of the
+/// What installs a merge's outputs: the step writes what isn't written of them yet, cites them in the place of the inputs, lets the erases go that are done then where no other job is in flight, and removes what no held pin names of these and of the
 /// pages that were retired before. The first of the outputs' pages were written before, under these names; for the other pages, the headers and the manifest numbers are
 /// drawn.
 ///
@@ -71,6 +72,7 @@ pub(crate) struct Pages<'a> {
 /// `Exhausted` where these numbers have run out, or `NoMemory`, also where a manifest would have 2^32 files.
 pub fn installing_merge<D: Disk>(
     alloc: Global,
+    company: Company,
     state: &State,
     version: &Version<D>,
     task: &MergeTask<D>,
@@ -93,6 +95,7 @@ pub fn installing_merge<D: Disk>(
     ensures step { IfOk result (λ made. IsStepFrom (segments_for state.now.frozen) state.now made.headers.items made.step) }
     ensures level { IfOk result (λ made. All (λ new. new.level ≡ task.now.level + 1) made.headers.items) }
     ensures objects { IfOk result (λ made. length made.step.objects.items ≡ sum_by numbers_for drafts.items - length pages.entry.written.now) }
+    ensures fresh { IfOk result (λ made. All (λ object. state.now.next ≤ object.name.no) made.step.objects.items) }
     ensures named { IfOk result (λ made. All (λ name. IsTrue (is_named pages.entry.pins.now.pins name)) made.left.items) }
     ensures gone { IfOk result (λ made. All (λ name. is_named pages.entry.pins.now.pins name ≡ false) made.step.gone.items) }
     ensures pages { IfOk result (λ made. All (λ name. name.kind ≡ Page) made.left.items) }
@@ -102,7 +105,7 @@ pub fn installing_merge<D: Disk>(
         → AreRising s.files → IsMergeTask s m (plain_merge task.now) → names_in beside ≡ pages.entry.retired.now → AreUncited s (beside ++ written_pages pages.entry.written.now drafts.items)
         → AreDrawn state.now.next (pages.entry.retired.now ++ pages.entry.written.now)
         → AreDraftsOf s.manifest.config (merged (entries_in (inputs_of m)) (erases_upto task.now.upto (pending_of s)) task.now.alone) drafts.items
-        → IfOk result (λ made. (t : Stored) × IsMerged s m (erases_upto task.now.upto (pending_of s)) task.now.alone task.now.upto t
+        → IfOk result (λ made. (t : Stored) × IsMergedWith company s m (erases_upto task.now.upto (pending_of s)) task.now.alone task.now.upto t
         × IsStep s (beside ++ written_pages pages.entry.written.now drafts.items) t (left_of (is_named pages.entry.pins.now.pins) (numbered made.step.merged.items s.files) beside) made.headers.items made.step
         × (made.left.items ≡ names_in (left_of (is_named pages.entry.pins.now.pins) (numbered made.step.merged.items s.files) beside))
         × AreDrawn made.step.manifest.next made.left.items × AreFirst pages.entry.written.now s t) }
@@ -111,7 +114,7 @@ pub fn installing_merge<D: Disk>(
     let Some(number) = number_behind(state.next(), objects) else {
         return Err(Refused::Exhausted { last: MAX_PLACE });
     };
-    match install(alloc, state, version, task, drafts, pages, number) {
+    match install(alloc, company, state, version, task, drafts, pages, number) {
         Ok(made) => Ok(made),
         Err(NoMemory) => Err(Refused::NoMemory),
     }
@@ -120,6 +123,7 @@ pub fn installing_merge<D: Disk>(
 /// What installs the drafts' files, to the manifest of this number, which is the one behind those of the objects.
 fn install<D: Disk>(
     alloc: Global,
+    company: Company,
     state: &State,
     version: &Version<D>,
     task: &MergeTask<D>,
@@ -140,6 +144,7 @@ fn install<D: Disk>(
     ensures step { IfOk result (λ made. IsStepFrom (segments_for state.now.frozen) state.now made.headers.items made.step) }
     ensures level { IfOk result (λ made. All (λ new. new.level ≡ task.now.level + 1) made.headers.items) }
     ensures objects { IfOk result (λ made. length made.step.objects.items ≡ sum_by numbers_for drafts.items - length pages.entry.written.now) }
+    ensures fresh { IfOk result (λ made. All (λ object. state.now.next ≤ object.name.no) made.step.objects.items) }
     ensures named { IfOk result (λ made. All (λ name. IsTrue (is_named pages.entry.pins.now.pins name)) made.left.items) }
     ensures gone { IfOk result (λ made. All (λ name. is_named pages.entry.pins.now.pins name ≡ false) made.step.gone.items) }
     ensures pages { IfOk result (λ made. All (λ name. name.kind ≡ Page) made.left.items) }
@@ -147,7 +152,7 @@ fn install<D: Disk>(
         → AreRising s.files → IsMergeTask s m (plain_merge task.now) → names_in beside ≡ pages.entry.retired.now → AreUncited s (beside ++ written_pages pages.entry.written.now drafts.items)
         → AreDrawn state.now.next (pages.entry.retired.now ++ pages.entry.written.now)
         → AreDraftsOf s.manifest.config (merged (entries_in (inputs_of m)) (erases_upto task.now.upto (pending_of s)) task.now.alone) drafts.items
-        → IfOk result (λ made. (t : Stored) × IsMerged s m (erases_upto task.now.upto (pending_of s)) task.now.alone task.now.upto t
+        → IfOk result (λ made. (t : Stored) × IsMergedWith company s m (erases_upto task.now.upto (pending_of s)) task.now.alone task.now.upto t
         × IsStep s (beside ++ written_pages pages.entry.written.now drafts.items) t (left_of (is_named pages.entry.pins.now.pins) (numbered made.step.merged.items s.files) beside) made.headers.items made.step
         × (made.left.items ≡ names_in (left_of (is_named pages.entry.pins.now.pins) (numbered made.step.merged.items s.files) beside))
         × AreDrawn made.step.manifest.next made.left.items × AreFirst pages.entry.written.now s t) }
@@ -156,12 +161,13 @@ fn install<D: Disk>(
     let made = make_files(alloc, drafts, level, task.upto, pages.written, state.next())?;
     let cited = state.manifest().files.items();
     let inputs = inputs_of(alloc, version, task, level, cited)?;
-    step_of(alloc, state, level, inputs, made, pages, number)
+    step_of(alloc, company, state, level, inputs, made, pages, number)
 }
 
 /// The step that writes what a job made, and cites it in the level in the place of the inputs, to the manifest of this number.
 pub(crate) fn step_of(
     alloc: Global,
+    company: Company,
     state: &State,
     level: u64,
     inputs: Inputs,
@@ -171,7 +177,7 @@ pub(crate) fn step_of(
 ) -> Result<Installation, NoMemory>
     requires number { number ≡ made.next }
     requires free { number < max_place }
-    ensures { IfOk result (IsInstallStep state.now level inputs made pages.entry.retired.now (is_named pages.entry.pins.now.pins)) }
+    ensures { IfOk result (IsInstallStep company state.now level inputs made pages.entry.retired.now (is_named pages.entry.pins.now.pins)) }
 {
     let MadeFiles {
         headers,
@@ -191,7 +197,7 @@ pub(crate) fn step_of(
     let change = Change {
         no: number,
         count: state.count(),
-        erases: state.kept_erases(alloc, &files)?,
+        erases: state.staying_erases(alloc, company, &files)?,
         segments: List::of(old.segments.items().to_vec(alloc)?),
         files: List::of(files),
     };

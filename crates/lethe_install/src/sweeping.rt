@@ -9,7 +9,7 @@ ghost use Rattle.lethe_advance.specs.Settled.{AreDrawn, AreUncited, names_in};
 ghost use Rattle.lethe_advance.specs.Steps.{IsStep};
 ghost use Rattle.lethe_file.specs.Agreement.{entries_in};
 ghost use Rattle.lethe_header.specs.Headers as headers;
-ghost use Rattle.lethe_install.specs.Outcomes.{AreFirst, IsSweepInstalled};
+ghost use Rattle.lethe_install.specs.Outcomes.{AreFirst, IsSweepInstalledWith};
 ghost use Rattle.lethe_install.specs.Replaced.{IsReplaced, behind, names_gone};
 ghost use Rattle.lethe_job.specs.SweepTasks.{IsSweepTask};
 ghost use Rattle.lethe_pins.specs.Held.{is_named};
@@ -31,6 +31,7 @@ use crate::steps::{Installation, Pages, step_of};
 use lethe_advance::{NewHeader, number_behind};
 use lethe_base::{Kind, MAX_PLACE, Name, NoMemory, Refused};
 use lethe_disk::Disk;
+use lethe_follows::Company;
 use lethe_header::Header;
 use lethe_manifest::Cited;
 use lethe_remade::{a_draft_is_left, make_swept, nothing_is_left};
@@ -39,7 +40,7 @@ use lethe_sweep_task::SweepTask;
 use lethe_swept::SweptDraft;
 use std::alloc::Global;
 
-/// What installs what a sweep leaves of its file: the step writes what isn't written of it yet, cites it in the file's place, lets the erases go that are done then, and removes the
+/// What installs what a sweep leaves of its file: the step writes what isn't written of it yet, cites it in the file's place, lets the erases go that are done then where no other job is in flight, and removes the
 /// header and the pages that stand in no file any more, and the pages that were retired before, but for those that a held pin names. The first of the new pages were written before, under
 /// these names; for the others, the header and the manifest numbers are drawn.
 ///
@@ -48,6 +49,7 @@ use std::alloc::Global;
 /// `Exhausted` where these numbers have run out, or `NoMemory`, also where a manifest would have 2^32 files.
 pub fn installing_sweep<D: Disk>(
     alloc: Global,
+    company: Company,
     state: &State,
     task: &SweepTask<D>,
     draft: Option<SweptDraft>,
@@ -66,6 +68,7 @@ pub fn installing_sweep<D: Disk>(
     ensures step { IfOk result (λ made. IsStepFrom (segments_for state.now.frozen) state.now made.headers.items made.step) }
     ensures level { IfOk result (λ made. All (λ new. new.level ≡ task.now.level) made.headers.items) }
     ensures objects { IfOk result (λ made. length made.step.objects.items ≡ numbers_of draft - length pages.entry.written.now) }
+    ensures fresh { IfOk result (λ made. All (λ object. state.now.next ≤ object.name.no) made.step.objects.items) }
     ensures named { IfOk result (λ made. All (λ name. IsTrue (is_named pages.entry.pins.now.pins name)) made.left.items) }
     ensures gone { IfOk result (λ made. All (λ name. is_named pages.entry.pins.now.pins name ≡ false) made.step.gone.items) }
     ensures pages { IfOk result (λ made. All (λ name. name.kind ≡ Page) made.left.items) }
@@ -75,7 +78,7 @@ pub fn installing_sweep<D: Disk>(
         → AreRising s.files → IsSweepTask s w (plain_sweep task.now) → names_in beside ≡ pages.entry.retired.now → AreUncited s (beside ++ written_pages pages.entry.written.now draft)
         → AreDrawn state.now.next (pages.entry.retired.now ++ pages.entry.written.now)
         → IsDraftLeft task.now.alone task.now.erase w.file.header.tiles (map entries_in w.file.pages) draft
-        → IfOk result (λ made. (t : Stored) × IsSweepInstalled s (plain_sweep task.now) t
+        → IfOk result (λ made. (t : Stored) × IsSweepInstalledWith company s (plain_sweep task.now) t
         × ((left : prelude.List (name.Name × prelude.List ℕ)) × IsStep s (beside ++ written_pages pages.entry.written.now draft) t left made.headers.items made.step × (made.left.items ≡ names_in left)
         × AreDrawn made.step.manifest.next made.left.items) × AreFirst pages.entry.written.now s t) }
 {
@@ -83,7 +86,7 @@ pub fn installing_sweep<D: Disk>(
     let Some(number) = number_behind(state.next(), objects) else {
         return Err(Refused::Exhausted { last: MAX_PLACE });
     };
-    match install(alloc, state, task, draft, pages, number) {
+    match install(alloc, company, state, task, draft, pages, number) {
         Ok(made) => Ok(made),
         Err(NoMemory) => Err(Refused::NoMemory),
     }
@@ -102,6 +105,7 @@ fn count_numbers(draft: &Option<SweptDraft>) -> u64
 /// What installs the draft's file, to the manifest of this number, which is the one behind those of the objects.
 fn install<D: Disk>(
     alloc: Global,
+    company: Company,
     state: &State,
     task: &SweepTask<D>,
     draft: Option<SweptDraft>,
@@ -121,6 +125,7 @@ fn install<D: Disk>(
     ensures step { IfOk result (λ made. IsStepFrom (segments_for state.now.frozen) state.now made.headers.items made.step) }
     ensures level { IfOk result (λ made. All (λ new. new.level ≡ task.now.level) made.headers.items) }
     ensures objects { IfOk result (λ made. length made.step.objects.items ≡ numbers_of draft - length pages.entry.written.now) }
+    ensures fresh { IfOk result (λ made. All (λ object. state.now.next ≤ object.name.no) made.step.objects.items) }
     ensures named { IfOk result (λ made. All (λ name. IsTrue (is_named pages.entry.pins.now.pins name)) made.left.items) }
     ensures gone { IfOk result (λ made. All (λ name. is_named pages.entry.pins.now.pins name ≡ false) made.step.gone.items) }
     ensures pages { IfOk result (λ made. All (λ name. name.kind ≡ Page) made.left.items) }
@@ -128,7 +133,7 @@ fn install<D: Disk>(
         → AreRising s.files → IsSweepTask s w (plain_sweep task.now) → names_in beside ≡ pages.entry.retired.now → AreUncited s (beside ++ written_pages pages.entry.written.now draft)
         → AreDrawn state.now.next (pages.entry.retired.now ++ pages.entry.written.now)
         → IsDraftLeft task.now.alone task.now.erase w.file.header.tiles (map entries_in w.file.pages) draft
-        → IfOk result (λ made. (t : Stored) × IsSweepInstalled s (plain_sweep task.now) t
+        → IfOk result (λ made. (t : Stored) × IsSweepInstalledWith company s (plain_sweep task.now) t
         × ((left : prelude.List (name.Name × prelude.List ℕ)) × IsStep s (beside ++ written_pages pages.entry.written.now draft) t left made.headers.items made.step × (made.left.items ≡ names_in left)
         × AreDrawn made.step.manifest.next made.left.items) × AreFirst pages.entry.written.now s t) }
 {
@@ -146,7 +151,9 @@ fn install<D: Disk>(
     let header = task.file.file().header();
     let cited = state.manifest().files.items();
     let inputs = replaced(alloc, header, &made.headers, cited)?;
-    step_of(alloc, state, task.level, inputs, made, pages, number)
+    step_of(
+        alloc, company, state, task.level, inputs, made, pages, number,
+    )
 }
 
 /// What has to be known of the file of this header, in whose place these come.

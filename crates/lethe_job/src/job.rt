@@ -10,19 +10,17 @@ ghost use Rattle.lethe_job.specs.Tasks.{HasDamaged};
 ghost use Rattle.lethe_job.specs.Works.{erases_of, inputs_in, plain_task, reads_of};
 
 use crate::made::Made;
-use crate::number::BegunJobs;
 use crate::task::Task;
 use lethe_base::Refused;
 use lethe_disk::{Disk, ReadRefused};
 use std::alloc::Global;
-use std::snapshot::Snapshot;
 use std::sync::Arc;
 
 /// A merge or a sweep that runs beside a store: its task, which the store knows too, a port of its own, and once it is made what it makes.
 #[derive(Drop)]
 pub struct Job<D: Disk> {
     /// Its number: how many jobs the store had begun before it.
-    number: Snapshot<BegunJobs>,
+    number: u64,
     /// The round in which it was begun: how many rounds had ended before it.
     round: u64,
     task: Arc<Task<D>>,
@@ -55,12 +53,7 @@ fn told_as(why: ReadRefused) -> Refused
 
 impl<D: Disk> Job<D> {
     /// A job of this task, which has made and written nothing.
-    pub fn begun(
-        number: Snapshot<BegunJobs>,
-        round: u64,
-        task: Arc<Task<D>>,
-        port: D::Port,
-    ) -> Job<D>
+    pub fn begun(number: u64, round: u64, task: Arc<Task<D>>, port: D::Port) -> Job<D>
         ensures job { IsJob D.tells result }
         ensures is { result ≡ record { number = number; round = round; task = task; port = port; made = None; written = 0; refused = false } }
     {
@@ -73,6 +66,13 @@ impl<D: Disk> Job<D> {
             written: 0,
             refused: false,
         }
+    }
+
+    /// Its number: how many jobs the store had begun before it.
+    pub fn number(&self) -> u64
+        ensures { result ≡ self.now.number }
+    {
+        self.number
     }
 
     /// The round in which it was begun.

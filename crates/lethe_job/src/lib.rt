@@ -24,6 +24,6 @@ pub use laws::{
 };
 pub use made::Made;
 pub use merge::MergeTask;
-pub use number::{Begun, BegunJobs};
+pub use number::Begun;
 pub use shape::shape_of;
 pub use task::{Task, task_of};

@@ -87,6 +87,7 @@ module _ (view : View) (moment faults' : ℕ) where
     writable = sound.writable;
     small = sound.small;
     count = sound.count;
+    flights = sound.flights;
     flies = sound.flies;
     loose = sound.loose;
     drawn = sound.drawn;
@@ -431,7 +432,7 @@ module _ (Tells : Type 0) (rest : View) (waiting : Waiting) (sound : IsSound Tel
     pub counted_in : IsCountedIn Tells waiting rest then
     counted_in = record {
       state = is;
-      beside = record { levels = refl; retired = refl; flight = refl; begun = refl; rounds = refl; pins = refl };
+      beside = record { levels = refl; retired = refl; flights = refl; begun = refl; rounds = refl; pins = refl };
       holds = counted_holds;
       directory = λ told s holds. directory_with rest s holds waiting.record prepared.spelled place disk' faults' state' waiting.end (has told s holds).0;
       stands = λ told config h caller call change stands with.
@@ -447,8 +448,9 @@ module _ (Tells : Type 0) (rest : View) (waiting : Waiting) (sound : IsSound Tel
           writable = writable;
           small = next_small waiting.record waiting.end rest.state state' is room sound.small;
           count = sound.count ∙ ap (λ (m : Manifest). m.config.levels + 1) (sym is.manifest);
-          flies = flies_on rest.state state' (ap (λ (m : Manifest). m.config.levels) is.manifest) rest.flight sound.flies;
-          loose = drawn_on rest.state.next state'.next (names_in (loose_in rest.flight)) (omega (arith, drawn)) sound.loose;
+          flights = sound.flights;
+          flies = flies_on rest.state state' (ap (λ (m : Manifest). m.config.levels) is.manifest) rest.flights sound.flies;
+          loose = drawn_on rest.state.next state'.next (names_in (loose_in rest.flights)) (omega (arith, drawn)) sound.loose;
           drawn = λ told. drawn_on rest.state.next state'.next (names_beside rest) (omega (arith, drawn)) (sound.drawn told);
           pins = sound.pins;
           pages = sound.pages;

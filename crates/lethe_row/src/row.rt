@@ -36,7 +36,7 @@ pub fn record_row<D: Disk>(core: &mut Core<D>, alloc: Global, asked: &mut VecDeq
     ensures row { IsRow D.tells asked.old.items asked.new.items result.done result.refused (view_of core.old) (view_of core.new) }
     ensures version { core.new.version ≡ core.old.version }
     ensures retired { core.new.retired ≡ core.old.retired }
-    ensures flight { core.new.flight ≡ core.old.flight }
+    ensures flights { core.new.flights ≡ core.old.flights }
     ensures begun { core.new.begun ≡ core.old.begun }
     ensures pins { core.new.pins ≡ core.old.pins }
 {

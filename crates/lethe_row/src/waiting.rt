@@ -67,7 +67,7 @@ pub fn hold<D: Disk>(
     ensures calls { D.tells → OnOk result ((D.seen core.new.disk).moment ≡ (D.seen core.old.disk).moment + 2) }
     ensures version { core.new.version ≡ core.old.version }
     ensures retired { core.new.retired ≡ core.old.retired }
-    ensures flight { core.new.flight ≡ core.old.flight }
+    ensures flights { core.new.flights ≡ core.old.flights }
     ensures begun { core.new.begun ≡ core.old.begun }
     ensures pins { core.new.pins ≡ core.old.pins }
     ensures pinned { D.tells → AreKept (view_of core.old).pins.pins (D.seen core.old.disk).directory (D.seen core.new.disk).directory }
@@ -135,7 +135,7 @@ pub fn pass_on<D: Disk>(
     ensures calls { D.tells → result ≡ Ok true → (D.seen core.new.disk).moment ≡ (D.seen core.old.disk).moment + 3 }
     ensures version { core.new.version ≡ core.old.version }
     ensures retired { core.new.retired ≡ core.old.retired }
-    ensures flight { core.new.flight ≡ core.old.flight }
+    ensures flights { core.new.flights ≡ core.old.flights }
     ensures begun { core.new.begun ≡ core.old.begun }
     ensures pins { core.new.pins ≡ core.old.pins }
     ensures pinned { D.tells → AreKept (view_of core.old).pins.pins (D.seen core.old.disk).directory (D.seen core.new.disk).directory }
@@ -195,7 +195,7 @@ pub fn count_last<D: Disk>(
     ensures calls { D.tells → OnOk result ((D.seen core.new.disk).moment ≡ (D.seen core.old.disk).moment + 2) }
     ensures version { core.new.version ≡ core.old.version }
     ensures retired { core.new.retired ≡ core.old.retired }
-    ensures flight { core.new.flight ≡ core.old.flight }
+    ensures flights { core.new.flights ≡ core.old.flights }
     ensures begun { core.new.begun ≡ core.old.begun }
     ensures pins { core.new.pins ≡ core.old.pins }
     ensures pinned { D.tells → AreKept (view_of core.old).pins.pins (D.seen core.old.disk).directory (D.seen core.new.disk).directory }

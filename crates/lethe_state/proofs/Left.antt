@@ -8,16 +8,17 @@ use Rattle.lethe_base.specs.Shapes.{earlier}
 use Rattle.lethe_base.specs.Spent.{done_upto, is_above, least, left_erases, put_place}
 use Rattle.lethe_base.specs.declared.pending.Pending.{Pending}
 use Rattle.lethe_follows.specs.Leaving.{first_erase, kept_erases, kept_of}
+use Rattle.lethe_follows.specs.Merged.{Beside, Company, Last}
 use Rattle.lethe_follows.proofs.Bounds.{done_by_cited, least-append}
 use Rattle.lethe_follows.proofs.LettingGo.{kept_are_erases}
-use Rattle.lethe_manifest.specs.Manifests.{HasSpelling}
+use Rattle.lethe_manifest.specs.Manifests.{AreErases, HasSpelling}
 use Rattle.lethe_manifest.specs.declared.manifest.Cited.{Cited}
 use Rattle.lethe_manifest.specs.declared.manifest.Manifest.{Manifest}
 use Rattle.lethe_segment.specs.declared.record.Record.{Record}
 use Rattle.lethe_stored.specs.Files.{Parts}
 use Rattle.lethe_stored.specs.Stored.{IsCoherent, Segment, Stored, erase_of, layout_of, plain, records_in}
 use Rattle.lethe_state.specs.Firsts.{firsts_in, firsts_with}
-use Rattle.lethe_state.specs.Left.{HasOtherFiles, done_with, first_recorded, installed, kept_with, left_with}
+use Rattle.lethe_state.specs.Left.{HasOtherFiles, done_with, first_recorded, installed, kept_with, left_with, staying_with}
 use Rattle.lethe_state.specs.Remembered.{Remembers}
 use Rattle.lethe_state.specs.Writable.{IsWritable, segments_for}
 use Rattle.lethe_state.specs.declared.firsts.Firsts.{Firsts}
@@ -98,11 +99,16 @@ left_remembered s state levels is =
 
 -- Without those that a manifest doesn't keep, what is remembered has a spelling still
 
-pub installed_writable : (manifest : Manifest) (state : State) → IsWritable state → HasSpelling manifest → length manifest.segments ≡ segments_for state.frozen → IsWritable (installed manifest state)
-installed_writable manifest state is spelled segments = record {
+pub staying_are_erases : (company : Company) (state : State) (files : List Cited) → AreErases state.pending → AreErases (staying_with company state files)
+staying_are_erases Last state files are = kept_are_erases (done_with state files) (first_recorded state) state.pending are
+staying_are_erases Beside state files are = are
+
+pub installed_writable : (company : Company) (manifest : Manifest) (state : State) → IsWritable state → HasSpelling manifest → length manifest.segments ≡ segments_for state.frozen
+    → IsWritable (installed company manifest state)
+installed_writable company manifest state is spelled segments = record {
   manifest = spelled;
   segments = segments;
-  pending = kept_are_erases (done_with state manifest.files) (first_recorded state) state.pending is.pending;
+  pending = staying_are_erases company state manifest.files is.pending;
   active = is.active;
   frozen = is.frozen;
   count = is.count;

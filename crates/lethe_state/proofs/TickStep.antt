@@ -11,6 +11,7 @@ use Rattle.lethe_commit.specs.declared.objects.Object.{Object}
 use Rattle.lethe_cover.proofs.Lists.{all_from}
 use Rattle.lethe_fade.specs.Expired.{is_passed}
 use Rattle.lethe_follows.specs.Leaving.{kept_erases}
+use Rattle.lethe_follows.specs.Merged.{Last}
 use Rattle.lethe_follows.specs.Ticked.{certificate_at, clocked, ticked}
 use Rattle.lethe_follows.specs.Young.{AreYoung, oldest_in}
 use Rattle.lethe_follows.proofs.LettingGo.{kept_are_erases}
@@ -164,7 +165,7 @@ tick_remembered s state levels next to number is current later spelled files =
 
 pub moved_writable : (manifest : Manifest) (state : State) → IsWritable state → HasSpelling manifest → length manifest.segments ≡ segments_for state.frozen → state.count < max_place → IsWritable (moved manifest state)
 moved_writable manifest state is spelled segments fits =
-    let kept = installed_writable manifest state is spelled segments in
+    let kept = installed_writable Last manifest state is spelled segments in
     let records = is.records in record {
       manifest = kept.manifest;
       segments = kept.segments;

@@ -7,6 +7,7 @@ use Rattle.lethe_manifest.specs.declared.manifest.Cited.{Cited}
 use Rattle.lethe_manifest.specs.declared.manifest.Manifest.{Manifest}
 use Rattle.lethe_stored.specs.Stored.{Stored, IsCoherent, pending_of}
 use Rattle.lethe_follows.specs.Leaving.{kept_of}
+use Rattle.lethe_follows.specs.Merged.{Company, Last, Beside}
 use Rattle.lethe_state.specs.Room.{under}
 use Rattle.lethe_state.specs.declared.state.State.{State}
 
@@ -27,9 +28,14 @@ first_recorded state = earlier state.frozen_firsts.erase state.firsts.erase
 abbrev pub kept_with : State → List Cited → List Pending
 kept_with state files = kept_of state.pending (done_with state files) (first_recorded state)
 
+-- the pending erases that the manifest of an install has: none leaves beside another job
+abbrev pub staying_with : Company → State → List Cited → List Pending
+staying_with Last state files = kept_with state files
+staying_with Beside state files = state.pending
+
 -- another manifest counts, and the erases that it doesn't keep are forgotten
-abbrev pub installed : Manifest → State → State
-installed manifest state = record (under manifest state) { pending = kept_with state manifest.files }
+abbrev pub installed : Company → Manifest → State → State
+installed company manifest state = record (under manifest state) { pending = staying_with company state manifest.files }
 
 -- what is stored has the same segments and the same pending erases, and whatever files
 pub record HasOtherFiles (s t : Stored) : Type 0 where

@@ -5,7 +5,7 @@ ghost use Rattle.lethe_base.specs.Spent.{done_upto, is_above, least, left_erases
 ghost use Rattle.lethe_stored.specs.Files.{Parts};
 ghost use Rattle.lethe_stored.specs.Stored.{Stored, layout_of};
 ghost use Rattle.lethe_follows.specs.Leaving.{is_kept, kept_erases};
-ghost use Rattle.lethe_state.specs.Left.{HasOtherFiles, done_with, first_recorded, kept_with, left_with};
+ghost use Rattle.lethe_state.specs.Left.{HasOtherFiles, done_with, first_recorded, kept_with, left_with, staying_with};
 ghost use Rattle.lethe_state.specs.Remembered.{Remembers};
 ghost use Rattle.lethe_state.specs.Writable.{IsWritable};
 
@@ -13,6 +13,7 @@ use crate::State;
 use crate::firsts::earlier;
 use lethe_base::{List, NoMemory, Pending, erases_above};
 use lethe_flush::swept_upto;
+use lethe_follows::Company;
 use lethe_manifest::Cited;
 use std::alloc::Global;
 
@@ -74,6 +75,21 @@ impl State {
             .filter(|erase| is_kept(done, first, erase.seq))
             .collect(alloc)?;
         Ok(List::of(kept))
+    }
+
+    /// The pending erases that the manifest of an install has, which cites these files: all of them beside another job.
+    pub fn staying_erases(
+        &self,
+        alloc: Global,
+        company: Company,
+        files: &[Cited],
+    ) -> Result<List<Pending>, NoMemory>
+        ensures { IfOk result (λ staying. staying ≡ staying_with company self.now files.now) }
+    {
+        match company {
+            Company::Last => self.kept_erases(alloc, files),
+            Company::Beside => Ok(List::of(self.pending.items().to_vec(alloc)?)),
+        }
     }
 
     /// Forgets the erases that the manifest doesn't keep. It takes no memory.

@@ -7,6 +7,7 @@ ghost use Rattle.lethe_state.specs.Writable.{IsWritable, segments_for};
 
 use crate::State;
 use lethe_advance::{Step, number_behind};
+use lethe_follows::Company;
 use std::alloc::Global;
 
 impl State {
@@ -27,16 +28,19 @@ impl State {
         self.next += 1;
     }
 
-    /// Takes the manifest of a merge's step, and forgets the erases that it doesn't keep. The buffers stay. It takes no memory.
-    pub fn install(&mut self, alloc: Global, step: Step)
+    /// Takes the manifest of a merge's or a sweep's step, and forgets the erases that it doesn't keep: none beside another job. The buffers stay. It takes no memory.
+    pub fn install(&mut self, alloc: Global, company: Company, step: Step)
         requires writable { IsWritable self.old }
         requires spelled { HasSpelling step.manifest }
         requires segments { length step.manifest.segments ≡ segments_for self.old.frozen }
-        ensures is { self.new ≡ installed step.manifest self.old }
+        ensures is { self.new ≡ installed company step.manifest self.old }
         ensures writable { IsWritable self.new }
     {
         self.next = step.manifest.next;
         self.manifest = step.manifest;
-        self.let_go(alloc);
+        match company {
+            Company::Last => self.let_go(alloc),
+            Company::Beside => {}
+        }
     }
 }

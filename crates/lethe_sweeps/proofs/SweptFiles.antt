@@ -16,9 +16,10 @@ use Rattle.lethe_stored.specs.Stored.{Stored, IsCoherent, part_names}
 use Rattle.lethe_stored.proofs.FileFacts.{as_many}
 use Rattle.lethe_stored.proofs.Freezing.{file_later}
 use Rattle.lethe_stored.proofs.Parts.{object_part}
-use Rattle.lethe_follows.specs.Merged.{merging_manifest}
+use Rattle.lethe_follows.specs.Merged.{Company}
 use Rattle.lethe_follows.proofs.Filing.{old_number}
-use Rattle.lethe_sweeps.specs.Swept.{IsOwnOrNew, IsSweepIn, IsSwept, StoredSweep, files_then}
+use Rattle.lethe_follows.proofs.Renewed.{is_renewed}
+use Rattle.lethe_sweeps.specs.Swept.{IsOwnOrNew, IsSweepIn, IsSweptWith, StoredSweep, files_then}
 
 -- The names of pages
 
@@ -46,18 +47,11 @@ pub few : (R : StoredFile → StoredFile → Type 0) (made : Option StoredFile) 
 few R None = tt
 few R (Some file) = ((λ other none. absurd (none_in other none)), tt)
 
-module _ (s : Stored) (coherent : IsCoherent s) (w : StoredSweep) (erase : Pending) (alone : Bool) (begun : IsSweepIn s w erase alone) (t : Stored)
-    (is : IsSwept s w erase alone t)
+module _ {company : Company} (s : Stored) (coherent : IsCoherent s) (w : StoredSweep) (erase : Pending) (alone : Bool) (begun : IsSweepIn s w erase alone) (t : Stored)
+    (is : IsSweptWith company s w erase alone t)
   where
     abbrev made : List StoredFile
     made = cons_option is.made []
-
-    -- with the new manifest
-    abbrev renewed : Stored
-    renewed = record { manifest = merging_manifest s t.files is.number; frozen = s.frozen; active = s.active; files = t.files }
-
-    same_stored : renewed ≡ t
-    same_stored = λ i. record { manifest = sym is.manifest i; frozen = sym is.frozen i; active = sym is.active i; files = t.files }
 
     pub front_in : (file : StoredFile) → Contains w.front file → Contains s.files file
     front_in file there = subst (λ files. Contains files file) (sym begun.files) (Contains-append_left w.front (w.file ∷ w.back) file there)
@@ -137,7 +131,7 @@ module _ (s : Stored) (coherent : IsCoherent s) (w : StoredSweep) (erase : Pendi
         (pairs_from AreApart (lines made) is.left.lines_once) left_apart right_apart)
 
     pub swept_coherent : HasSpelling t.manifest → IsCoherent t
-    swept_coherent spelled = subst IsCoherent same_stored (record {
+    swept_coherent spelled = subst IsCoherent (is_renewed company s t is.number is.manifest is.frozen is.active) (record {
       spelled = subst HasSpelling is.manifest spelled;
       cites = coherent.cites;
       once = coherent.once;

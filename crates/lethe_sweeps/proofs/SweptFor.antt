@@ -27,14 +27,15 @@ use Rattle.lethe_stored.specs.Kept.{IsFor}
 use Rattle.lethe_stored.specs.Stored.{Stored, IsCoherent, count_of, layout_of}
 use Rattle.lethe_stored.proofs.Leveled.{from_level, low_level, of_level}
 use Rattle.lethe_stored.proofs.Numbered.{covers_numbered}
-use Rattle.lethe_follows.specs.Merged.{entries_in, range_of}
+use Rattle.lethe_follows.specs.Merged.{Company, entries_in, range_of}
 use Rattle.lethe_follows.proofs.Filing.{old_number}
 use Rattle.lethe_follows.proofs.Following.{file_from, follows}
 use Rattle.lethe_follows.proofs.LettingGo.{kept_for}
 use Rattle.lethe_follows.proofs.MergeLevels.{range_from}
+use Rattle.lethe_follows.proofs.Renewed.{renewed_has}
 use Rattle.lethe_follows.proofs.Tiled.{file_tiled}
-use Rattle.lethe_sweeps.specs.Swept.{HasNoneBelow, IsSweepIn, IsSwept, StoredSweep, files_before}
-use Rattle.lethe_sweeps.proofs.SweptErases.{left_is, pending_all, with_all}
+use Rattle.lethe_sweeps.specs.Swept.{HasNoneBelow, IsSweepIn, IsSweptWith, StoredSweep, files_before}
+use Rattle.lethe_sweeps.proofs.SweptErases.{pending_all, swept_is, with_all}
 use Rattle.lethe_sweeps.proofs.SweptFiles.{few, own_in}
 use Rattle.lethe_sweeps.proofs.SweptLevels.{levels_are, levels_become, made_is, sweep_of}
 
@@ -48,8 +49,8 @@ if_some P (Some made) each (Some file) same =
     let one = map_from file_of (made ∷ []) file (subst (λ files. Contains files file) same (first_is file [] file refl)) in
     subst P one.2 (each one.0 one.1)
 
-module _ (h : History) (s : Stored) (coherent : IsCoherent s) (stands : IsFor h s) (w : StoredSweep) (erase : Pending) (alone : Bool)
-    (begun : IsSweepIn s w erase alone) (t : Stored) (is : IsSwept s w erase alone t)
+module _ {company : Company} (h : History) (s : Stored) (coherent : IsCoherent s) (stands : IsFor h s) (w : StoredSweep) (erase : Pending) (alone : Bool)
+    (begun : IsSweepIn s w erase alone) (t : Stored) (is : IsSweptWith company s w erase alone t)
   where
     abbrev deepest : ℕ
     deepest = s.manifest.config.levels
@@ -186,9 +187,8 @@ module _ (h : History) (s : Stored) (coherent : IsCoherent s) (stands : IsFor h 
     layout_swept : layout_of next ≡ record l { levels = moves.levels_then laid; count = count_of next; next = is.number + 1 }
     layout_swept = λ i. record l { count = count_of next; next = is.number + 1; pending = pending_all s w erase alone t is i; levels = levels_swept i }
 
-    -- with all that was pending, what is stored stands for the history, and so it does without what is spent
-    pub swept_for : IsFor h t
-    swept_for = subst (IsFor h) (left_is s w erase alone t is) (kept_for next h (record {
+    all_for : IsFor h next
+    all_for = record {
       legal = stands.legal;
       done = stands.done;
       covers = subst (Covers threshold h) (sym layout_swept)
@@ -197,4 +197,8 @@ module _ (h : History) (s : Stored) (coherent : IsCoherent s) (stands : IsFor h 
       clock = stands.clock;
       count = count_swept ∙ stands.count;
       certificate = stands.certificate;
-    }))
+    }
+
+    -- with all that was pending, what is stored stands for the history, and so it does without what is spent, which leaves where no other job is in flight
+    pub swept_for : IsFor h t
+    swept_for = subst (IsFor h) (swept_is s w erase alone t is) (renewed_has s t.files is.number company (IsFor h) all_for (kept_for next h))

@@ -17,8 +17,8 @@ use Rattle.lethe_stored.specs.Levels.{AreRising}
 use Rattle.lethe_stored.specs.Stored.{Stored, IsCoherent}
 use Rattle.lethe_stored.proofs.FileFacts.{lower_is, upper_is}
 use Rattle.lethe_stored.proofs.Leveled.{of_level}
-use Rattle.lethe_follows.specs.Merged.{range_of}
-use Rattle.lethe_sweeps.specs.Swept.{IsSweepIn, IsSwept, StoredSweep}
+use Rattle.lethe_follows.specs.Merged.{Company, range_of}
+use Rattle.lethe_sweeps.specs.Swept.{IsSweepIn, IsSweptWith, StoredSweep}
 use Rattle.lethe_sweeps.proofs.SweptFiles.{few}
 use Rattle.lethe_sweeps.proofs.SweptLevels.{own_before, other_then, own_then}
 
@@ -44,8 +44,8 @@ all_below : (files : List StoredFile) → Pairs IsRising files → Pairs IsBelow
 all_below [] pairs = tt
 all_below (file ∷ files) pairs = ((λ other there. below_is file other (pairs.0 other there)), all_below files pairs.1)
 
-module _ (s : Stored) (coherent : IsCoherent s) (rising : AreRising s.files) (w : StoredSweep) (erase : Pending) (alone : Bool) (begun : IsSweepIn s w erase alone) (t : Stored)
-    (is : IsSwept s w erase alone t)
+module _ {company : Company} (s : Stored) (coherent : IsCoherent s) (rising : AreRising s.files) (w : StoredSweep) (erase : Pending) (alone : Bool) (begun : IsSweepIn s w erase alone) (t : Stored)
+    (is : IsSweptWith company s w erase alone t)
   where
     abbrev own : ℕ
     own = w.file.level

@@ -27,7 +27,8 @@ use Rattle.lethe_advance.specs.Steps.{IsObjectFrom, IsSegmentFrom, IsSettledBy, 
 use Rattle.lethe_advance.specs.declared.new_header.NewHeader.{NewHeader}
 use Rattle.lethe_advance.specs.declared.step.Step.{Step}
 use Rattle.lethe_advance.proofs.Lists.{filter_all}
-use Rattle.lethe_sweeps.specs.Swept.{IsSweepIn, IsSwept, StoredSweep}
+use Rattle.lethe_follows.specs.Merged.{Company}
+use Rattle.lethe_sweeps.specs.Swept.{IsSweepIn, IsSweptWith, StoredSweep}
 use Rattle.lethe_sweeps.specs.SweptSteps.{IsSweepStep}
 use Rattle.lethe_sweeps.proofs.SweptFiles.{back_in, front_in, own_in}
 
@@ -82,8 +83,8 @@ names_apart a b other lines name left right = ⊎_elim
     (name_kinds b name right))
     (name_kinds a name left)
 
-module _ (s t : Stored) (coherent : IsCoherent s) (next : IsCoherent t) (w : StoredSweep) (erase : Pending) (alone : Bool) (begun : IsSweepIn s w erase alone)
-    (is : IsSwept s w erase alone t) (loose left : List (Name × List ℕ)) (pages : All (λ (named : Name × List ℕ). named.0.kind ≡ Page) loose) (uncited : AreUncited s loose)
+module _ {company : Company} (s t : Stored) (coherent : IsCoherent s) (next : IsCoherent t) (w : StoredSweep) (erase : Pending) (alone : Bool) (begun : IsSweepIn s w erase alone)
+    (is : IsSweptWith company s w erase alone t) (loose left : List (Name × List ℕ)) (pages : All (λ (named : Name × List ℕ). named.0.kind ≡ Page) loose) (uncited : AreUncited s loose)
     (headers : List NewHeader) (step : Step) (stepped : IsSweepStep s t w.file (cons_option is.made []) loose left headers step)
     (taken : All (λ (named : Name × List ℕ). IsSettledBy step t left named.0) loose) (among : All (WasThere s loose) left)
     (remains : All (λ (named : Name × List ℕ). Contains step.gone.items named.0 → ⊥) left) (spare : AreUncited t left)

@@ -11,24 +11,25 @@ ghost use Rattle.lethe_advance.specs.Steps.{IsSettledBy, IsStep, WasThere};
 ghost use Rattle.lethe_advance.specs.declared.new_header.NewHeader.{NewHeader};
 ghost use Rattle.lethe_advance.specs.declared.step.Step.{Step};
 ghost use Rattle.lethe_follows.specs.Filed.{flushed};
+ghost use Rattle.lethe_follows.specs.Merged.{Company};
 ghost use Rattle.lethe_manifest.specs.Manifests.{HasSpelling};
 ghost use Rattle.lethe_segment.specs.declared.record.Record.{Record};
 ghost use Rattle.lethe_stored.specs.Files.{StoredFile};
 ghost use Rattle.lethe_stored.specs.Kept.{IsFor};
 ghost use Rattle.lethe_stored.specs.Levels.{AreRising};
 ghost use Rattle.lethe_stored.specs.Stored.{Stored, IsCoherent, appended, erase_of, froze, layout_of, pending_of};
-ghost use Rattle.lethe_sweeps.specs.Swept.{IsSweepIn, IsSwept, StoredSweep, files_before, with_front};
+ghost use Rattle.lethe_sweeps.specs.Swept.{IsSweepIn, IsSweptWith, StoredSweep, files_before, with_front};
 ghost use Rattle.lethe_sweeps.specs.SweptSteps.{IsSweepStep};
 
-/// With what an erase leaves of a file in the file's place, and without the erases that are done then, what is stored stands for the same history: the pages that stay change
-/// their owner.
+/// With what an erase leaves of a file in the file's place, and without the erases that are done then where no other job is in flight, what is stored stands for the same
+/// history: the pages that stay change their owner.
 pub fn sweep_follows()
-    ensures coherent { (s : Stored) → IsCoherent s → (w : StoredSweep) (erase : Pending) (alone : Bool) → IsSweepIn s w erase alone → (t : Stored)
-        → IsSwept s w erase alone t → HasSpelling t.manifest → IsCoherent t }
-    ensures rising { (s : Stored) → IsCoherent s → AreRising s.files → (w : StoredSweep) (erase : Pending) (alone : Bool) → IsSweepIn s w erase alone → (t : Stored)
-        → IsSwept s w erase alone t → AreRising t.files }
-    ensures stands { (h : History) (s : Stored) → IsCoherent s → IsFor h s → (w : StoredSweep) (erase : Pending) (alone : Bool) → IsSweepIn s w erase alone → (t : Stored)
-        → IsSwept s w erase alone t → IsFor h t }
+    ensures coherent { (company : Company) (s : Stored) → IsCoherent s → (w : StoredSweep) (erase : Pending) (alone : Bool) → IsSweepIn s w erase alone → (t : Stored)
+        → IsSweptWith company s w erase alone t → HasSpelling t.manifest → IsCoherent t }
+    ensures rising { (company : Company) (s : Stored) → IsCoherent s → AreRising s.files → (w : StoredSweep) (erase : Pending) (alone : Bool) → IsSweepIn s w erase alone → (t : Stored)
+        → IsSweptWith company s w erase alone t → AreRising t.files }
+    ensures stands { (company : Company) (h : History) (s : Stored) → IsCoherent s → IsFor h s → (w : StoredSweep) (erase : Pending) (alone : Bool) → IsSweepIn s w erase alone → (t : Stored)
+        → IsSweptWith company s w erase alone t → IsFor h t }
 {}
 
 /// A sweep stays one while records come, a segment is frozen, and files of level 0 come by a flush.
@@ -50,7 +51,7 @@ pub fn first_left_is_swept()
 
 /// The step of a sweep is one that `advance` carries out: pages that stay are stored already, and are cited by another file then.
 pub fn sweep_is_a_step()
-    ensures { (s t : Stored) → IsCoherent s → IsCoherent t → (w : StoredSweep) (erase : Pending) (alone : Bool) → IsSweepIn s w erase alone → (is : IsSwept s w erase alone t)
+    ensures { (company : Company) (s t : Stored) → IsCoherent s → IsCoherent t → (w : StoredSweep) (erase : Pending) (alone : Bool) → IsSweepIn s w erase alone → (is : IsSweptWith company s w erase alone t)
         → (loose left : List (Name × List ℕ)) → All (λ named. named.0.kind ≡ Page) loose → AreUncited s loose
         → (headers : List NewHeader) (step : Step) → IsSweepStep s t w.file (cons_option is.made []) loose left headers step
         → All (λ named. IsSettledBy step t left named.0) loose → All (WasThere s loose) left → All (λ named. Contains step.gone.items named.0 → ⊥) left → AreUncited t left

@@ -1,7 +1,7 @@
 -- The clock moves: where no job is in flight what is stored next is held, and stands for the history with the tick.
 use Rattle.std.proofs.Common.{◌≡◌, ◌≤◌, ◌<◌, ◌+◌, ◌⊎◌, inl, inr, ℕ, List, [], ◌∷◌, ◌++◌, length, All, Contains, Some, None, refl, sym, ap, ◌∙◌, subst, arith}
-use Rattle.std.specs.Prelude.{IfSome, IsTrue}
-use Rattle.std.proofs.lemmas.List.Elements.{All-contains, All-weaker}
+use Rattle.std.specs.Prelude.{IsTrue}
+use Rattle.std.proofs.lemmas.List.Elements.{All-contains, All-nil, All-weaker}
 use Rattle.lethe_base.proofs.Histories.{after-push}
 use Rattle.lethe_base.specs.History.{Change, History, State as Stand, after}
 use Rattle.lethe_base.specs.Limits.{max_place}
@@ -19,9 +19,7 @@ use Rattle.lethe_advance.specs.Steps.{HasStayed, IsStep}
 use Rattle.lethe_advance.specs.Untorn.{IsUntorn}
 use Rattle.lethe_advance.specs.declared.new_header.NewHeader.{NewHeader}
 use Rattle.lethe_advance.specs.declared.step.Step.{Step}
-use Rattle.lethe_core.proofs.Copied.{all_copied}
 use Rattle.lethe_core.proofs.Stays.{step_untorn}
-use Rattle.lethe_core.specs.Copied.{IsCopied}
 use Rattle.lethe_commit.specs.Append.{EndsAt}
 use Rattle.lethe_cover.specs.Steps.{with_done}
 use Rattle.lethe_disk.specs.Disk.{Image}
@@ -50,9 +48,10 @@ use Rattle.lethe_stored.specs.Levels.{HasFiles}
 use Rattle.lethe_stored.specs.Numbers.{GoesFrom}
 use Rattle.lethe_stored.specs.Stored.{Stored, layout_of, part_names, pending_of, segment_name}
 use Rattle.lethe_core.specs.Asked.{Makes, behind, done_by, written_by}
+use Rattle.lethe_core.specs.Flights.{AreFlights}
 use Rattle.lethe_core.specs.Keeps.{MayStep}
 use Rattle.lethe_core.specs.Pinned.{AreKept, AreNamed, AreTimely}
-use Rattle.lethe_core.specs.Running.{Holds, IsFlying, IsRunning, IsSmall, IsSound, IsTasked}
+use Rattle.lethe_core.specs.Running.{Holds, IsCopiedFrom, IsFlying, IsRunning, IsSmall, IsSound, IsTasked}
 use Rattle.lethe_core.specs.StandsNow.{IsCounted, StandsNow}
 use Rattle.lethe_core.specs.Steps.{IsHindered}
 use Rattle.lethe_core.specs.View.{Flying, View, beside_at, beside_in, loose_in, names_beside}
@@ -156,7 +155,7 @@ module _ (Tells : Type 0) (old : View) (before to : ℕ) (may : MayStep Tells ol
 
   -- It was carried out
 
-  module _ (new : View) (carried : IsCarried Tells old new headers step) (new_is : new.state ≡ moved step.manifest old.state) (free : old.flight ≡ None) (here : Tells → Image old.disk old.disk.directory) where
+  module _ (new : View) (carried : IsCarried Tells old new headers step) (new_is : new.state ≡ moved step.manifest old.state) (free : old.flights ≡ []) (here : Tells → Image old.disk old.disk.directory) where
     module _ (told : Tells) (s : Stored) (holds : Holds old s) where
       is : IsStep s (beside_in old) (t s) (beside_in old) headers step
       is = tick_is told s holds
@@ -168,7 +167,7 @@ module _ (Tells : Type 0) (old : View) (before to : ℕ) (may : MayStep Tells ol
       files = carried.files told s (t s) (beside_in old) holds.running is holds.remembers.files
 
       same_beside : beside_in new ≡ beside_in old
-      same_beside = (λ i. beside_at new.disk.directory (carried.retired i) (carried.flight i)) ∙ beside_stays old.disk.directory new.disk.directory old.retired old.flight done.1.there
+      same_beside = (λ i. beside_at new.disk.directory (carried.retired i) (carried.flights i)) ∙ beside_stays old.disk.directory new.disk.directory old.retired old.flights done.1.there
 
       untorn : IsUntorn (t s) new.disk.directory
       untorn = step_untorn s (t s) (beside_in old) (beside_in old) headers step old.disk.directory new.disk.directory holds.remembers.coherent is holds.running.only holds.running.untorn
@@ -192,7 +191,7 @@ module _ (Tells : Type 0) (old : View) (before to : ℕ) (may : MayStep Tells ol
           only = subst (λ l. HasOnly (t s) l new.disk.directory) (sym same_beside) done.1;
           uncited = subst (AreUncited (t s)) (sym same_beside) is.left_uncited;
           untorn = untorn;
-          copied = subst (λ flight. All (IsCopied (t s)) (loose_in flight)) (sym carried.flight) (all_copied s (t s) refl (λ file there. there) (loose_in old.flight) holds.running.copied);
+          copied = subst (All IsCopiedFrom) (sym carried.flights) holds.running.copied;
           kept = λ name named. elim (holds.running.kept name (subst (λ (held : Held). IsTrue (is_named held.pins name)) carried.pins named)) [
             | inl page ↦ inl page
             | inr retired ↦ inr (subst (λ names. Contains names name) (sym carried.retired) retired)
@@ -200,7 +199,7 @@ module _ (Tells : Type 0) (old : View) (before to : ℕ) (may : MayStep Tells ol
           rising = holds.running.rising;
           ends = subst (EndsAt new.disk (segment_name s.active.no) s.active.no s.active.records) (sym (ap (λ (state : State). state.end) new_is)) ends;
           current = both.1;
-          tasked = subst (λ flight. IfSome flight (IsTasked (t s))) (sym (carried.flight ∙ free)) tt;
+          tasked = subst (All (IsTasked (t s))) (sym (carried.flights ∙ free)) (All-nil (IsTasked (t s)));
         };
       }
 
@@ -219,7 +218,7 @@ module _ (Tells : Type 0) (old : View) (before to : ℕ) (may : MayStep Tells ol
         | inr there ↦ inr (retired_beside old s (t s) (beside_in old) headers step running is name there)
       ])
 
-  module _ (new : View) (new_is : new.state ≡ moved step.manifest old.state) (retired : new.retired ≡ old.retired) (flight : new.flight ≡ old.flight) (pins : new.pins ≡ old.pins)
+  module _ (new : View) (new_is : new.state ≡ moved step.manifest old.state) (retired : new.retired ≡ old.retired) (flights : new.flights ≡ old.flights) (pins : new.pins ≡ old.pins)
       (held : Tells → (s : Stored) → Holds old s → Holds new (t s)) where
     config_is : new.state.manifest.config ≡ old.state.manifest.config
     config_is = ap (λ (state : State). state.manifest.config) new_is ∙ from.config
@@ -229,18 +228,19 @@ module _ (Tells : Type 0) (old : View) (before to : ℕ) (may : MayStep Tells ol
       writable = writable;
       small = subst IsSmall (sym new_is) (small_moved step.manifest old.state from.config may.sound.small);
       count = levels ∙ may.sound.count ∙ ap (λ (fields : Fields). fields.levels + 1) (sym config_is);
-      flies = subst (λ flight. IfSome flight (IsFlying new.state)) (sym flight) (flies_on old.state new.state (ap (λ (fields : Fields). fields.levels) config_is) old.flight may.sound.flies);
+      flights = subst AreFlights (sym flights) may.sound.flights;
+      flies = subst (All (IsFlying new.state)) (sym flights) (flies_on old.state new.state (ap (λ (fields : Fields). fields.levels) config_is) old.flights may.sound.flies);
       loose =
           let next = ap (λ (state : State). state.next) new_is in
           let number = from.numbers in
           let above = from.next in
-          subst (λ flight. AreDrawn new.state.next (names_in (loose_in flight))) (sym flight)
-          (drawn_on old.state.next new.state.next (names_in (loose_in old.flight)) (omega (arith, next, number, above)) may.sound.loose);
+          subst (λ flights. AreDrawn new.state.next (names_in (loose_in flights))) (sym flights)
+          (drawn_on old.state.next new.state.next (names_in (loose_in old.flights)) (omega (arith, next, number, above)) may.sound.loose);
       drawn = λ told.
           let next = ap (λ (state : State). state.next) new_is in
           let number = from.numbers in
           let above = from.next in
-          subst (AreDrawn new.state.next) (λ i. (sym retired) i ++ names_in (loose_in ((sym flight) i))) (drawn_on old.state.next new.state.next (names_beside old) (omega (arith, next, number, above)) (may.sound.drawn told));
+          subst (AreDrawn new.state.next) (λ i. (sym retired) i ++ names_in (loose_in ((sym flights) i))) (drawn_on old.state.next new.state.next (names_beside old) (omega (arith, next, number, above)) (may.sound.drawn told));
       pins = subst AreHeld (sym pins) may.sound.pins;
       pages = subst (λ (held : Held). All (λ pin. All (λ name. name.kind ≡ Page) pin.names) held.pins) (sym pins) may.sound.pages;
       held = λ told. let now = held_now told in let holds = held told now.0 now.1 in (t now.0, holds.remembers, λ runs. holds.running);
@@ -267,5 +267,5 @@ module _ (Tells : Type 0) (old : View) (before to : ℕ) (may : MayStep Tells ol
           let for = then_for config h stands forward due caller in
           let holds = held told stands.stored (stands_holds config h old stands may.runs) in
           open_stands config (with_done h caller (Tick to)) new (t stands.stored) for.legal for.done (holds.running.current.count ∙ for.count) stands.config_is for holds
-          (subst (λ flight. IfSome flight (λ (flying : Flying). IsCounted flying.task)) (sym flight) stands.counted) (ticked_recorded stands.stored stands.recorded)
+          (subst (All (λ (flying : Flying). IsCounted flying.task)) (sym flights) stands.counted) (ticked_recorded stands.stored stands.recorded)
           (ticked_timely told config.threshold h forward caller (stands.timely may.runs))

@@ -1,5 +1,5 @@
 //! Moving the clock.
-ghost use Rattle.std.specs.Prelude.{◌≡◌, ◌≤◌, ◌<◌, ◌+◌, ◌++◌, ℕ, All, None, IfErr, IfOk, MatchResult, OnOk, option_to_list};
+ghost use Rattle.std.specs.Prelude.{◌≡◌, ◌≤◌, ◌<◌, ◌+◌, ◌++◌, ℕ, [], All, IfErr, IfOk, MatchResult, OnOk, option_to_list};
 ghost use Rattle.std.specs.Vec.{vec_capacity, vec_len};
 ghost use Rattle.std.specs.Result.{result_err};
 ghost use Rattle.lethe_base.specs.History.{History, after};
@@ -42,7 +42,7 @@ pub(crate) fn move_clock<D: Disk>(
 ) -> Result<Option<Certificate>, Refused>
     requires may { MayStep D.tells (view_of core.old) before }
     requires within { to ≤ max_time }
-    requires free { core.old.flight ≡ None }
+    requires free { core.old.flights ≡ [] }
 
     // No held pin bars the tick, and the pages that are retired are those that held pins name.
     requires passes { All (λ pin. to < pin.limit) (view_of core.old).pins.pins }
@@ -67,7 +67,7 @@ pub(crate) fn move_clock<D: Disk>(
     ensures drawn { core.old.state.next ≤ core.new.state.next }
     ensures faults { D.faults core.old.disk ≤ D.faults core.new.disk }
     ensures retired { core.new.retired ≡ core.old.retired }
-    ensures flight { core.new.flight ≡ core.old.flight }
+    ensures flights { core.new.flights ≡ core.old.flights }
     ensures begun { core.new.begun ≡ core.old.begun }
     ensures pins { core.new.pins ≡ core.old.pins }
     ensures pinned { D.tells → AreKept (view_of core.old).pins.pins (D.seen core.old.disk).directory (D.seen core.new.disk).directory }

@@ -29,7 +29,7 @@ pub(crate) fn ripen_buffers<D: Disk>(
     ensures done { D.tells → (s : Stored) → Holds (view_of core.old) s → OnOk result ((t : Stored) × IsRipened to s t × Holds (view_of core.new) t) }
     ensures why { IfErr result (HasReason (IsShortToFlush core.new.state ⊎ IsShortToFreeze core.new.state) core.old.state before (D.faults core.new.disk)) }
     ensures retired { core.new.retired ≡ core.old.retired }
-    ensures flight { core.new.flight ≡ core.old.flight }
+    ensures flights { core.new.flights ≡ core.old.flights }
     ensures begun { core.new.begun ≡ core.old.begun }
 {
     if core.state.has_young_records(to) {
@@ -46,7 +46,7 @@ fn flush_buffers<D: Disk>(core: &mut Core<D>, alloc: Global, before: u64) -> Res
     ensures done { D.tells → (s : Stored) → Holds (view_of core.old) s → OnOk result ((t : Stored) × AreBuffersFlushed s t × Holds (view_of core.new) t) }
     ensures why { IfErr result (HasReason (IsShortToFlush core.new.state ⊎ IsShortToFreeze core.new.state) core.old.state before (D.faults core.new.disk)) }
     ensures retired { core.new.retired ≡ core.old.retired }
-    ensures flight { core.new.flight ≡ core.old.flight }
+    ensures flights { core.new.flights ≡ core.old.flights }
     ensures begun { core.new.begun ≡ core.old.begun }
 {
     flush_frozen(core, alloc, before)?;
@@ -63,7 +63,7 @@ fn flush_frozen<D: Disk>(core: &mut Core<D>, alloc: Global, before: u64) -> Resu
     ensures frozen { OnOk result (core.new.state.frozen ≡ None) }
     ensures why { IfErr result (HasReason (IsShortToFlush core.old.state) core.old.state before (D.faults core.new.disk)) }
     ensures retired { core.new.retired ≡ core.old.retired }
-    ensures flight { core.new.flight ≡ core.old.flight }
+    ensures flights { core.new.flights ≡ core.old.flights }
     ensures begun { core.new.begun ≡ core.old.begun }
 {
     if core.state.frozen().is_none() {
@@ -81,7 +81,7 @@ fn freeze_if_any<D: Disk>(core: &mut Core<D>, alloc: Global, before: u64) -> Res
     ensures done { D.tells → (s : Stored) → Holds (view_of core.old) s → OnOk result ((t : Stored) × IsFrozenIfAny s t × Holds (view_of core.new) t) }
     ensures why { IfErr result (HasReason (IsShortToFreeze core.old.state) core.old.state before (D.faults core.new.disk)) }
     ensures retired { core.new.retired ≡ core.old.retired }
-    ensures flight { core.new.flight ≡ core.old.flight }
+    ensures flights { core.new.flights ≡ core.old.flights }
     ensures begun { core.new.begun ≡ core.old.begun }
 {
     if core.state.records() == 0 {

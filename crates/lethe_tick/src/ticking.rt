@@ -1,5 +1,5 @@
 //! A tick.
-ghost use Rattle.std.specs.Prelude.{◌≡◌, ◌≤◌, ◌<◌, ◌+◌, ◌⊎◌, ◌++◌, ℕ, List, All, None, IfErr, IfOk, IsErrOf, MatchResult, OnOk, option_to_list};
+ghost use Rattle.std.specs.Prelude.{◌≡◌, ◌≤◌, ◌<◌, ◌+◌, ◌⊎◌, ◌++◌, ℕ, [], List, All, IfErr, IfOk, IsErrOf, MatchResult, OnOk, option_to_list};
 ghost use Rattle.std.specs.Result.{result_err};
 ghost use Rattle.lethe_base.specs.History.{History};
 ghost use Rattle.lethe_base.specs.Limits.{max_time};
@@ -32,7 +32,7 @@ use lethe_core::Core;
 use lethe_disk::Disk;
 use std::alloc::Global;
 
-/// Carries out a tick to a time that isn't behind the clock. The job in flight is given up, and retired pages that no held pin names are removed. Where a record of a segment
+/// Carries out a tick to a time that isn't behind the clock. The jobs in flight are given up, and retired pages that no held pin names are removed. Where a record of a segment
 /// is as old at that time as level 0 may have it, both buffers are flushed. The merges and sweeps that are due then are carried out, one after another until none is: each page
 /// of a merge's inputs is fetched once through the port, and of a swept file those that its header tells. Then the clock moves, the erases that are done leave, and where the
 /// time is at least the threshold the certificate is added, which is answered. `before` is the count of faults from which a failure is told.
@@ -77,7 +77,7 @@ pub fn tick<D: Disk>(
     ensures drawn { core.old.state.next ≤ core.new.state.next }
     ensures faults { D.faults core.old.disk ≤ D.faults core.new.disk }
     ensures retired { AreRetiredFrom (view_of core.old).pins.pins (view_of core.old).retired (view_of core.new).retired }
-    ensures free { core.new.flight ≡ None }
+    ensures free { core.new.flights ≡ [] }
     ensures begun { core.new.begun ≡ core.old.begun }
     ensures pins { core.new.pins ≡ core.old.pins }
 
@@ -113,7 +113,7 @@ fn ripen_store<D: Disk>(
         × (D.fetches port.new ≡ D.fetches port.old + pages_of outcomes)) }
     ensures why { IfErr result (λ why. HasReason (IsShortToTick D.tells to (view_of core.new)) core.old.state before (D.faults core.new.disk) why
         ⊎ IsUnreadable D.tells D.ports_fail (D.port_faults port.old) (D.port_faults port.new) why) }
-    ensures free { core.new.flight ≡ None }
+    ensures free { core.new.flights ≡ [] }
     ensures begun { core.new.begun ≡ core.old.begun }
     ensures named { OnOk result (AreNamed (view_of core.new).pins.pins (view_of core.new).retired) }
     ensures port_faults { D.port_faults port.old ≤ D.port_faults port.new }

@@ -88,7 +88,7 @@ loop-alloc-preserved g c =
         one_made tells Ports old c.args.asked.items (so_far.0 ++ went.row.made) row.new.asked.items new made c.in-Some.change c.pop_front.new.self.items c.in-Some.ensures.items
             then c.change_one.ensures.pins c.in-Ok.ensures.answers,
         round_made tells old mid new then so_far.0 c.loop-alloc.left.items row.new.asked.items c.pop_front.new.self.items row.result.done c.in-Some.change (face_of new) (g.D.Disk.fetches c.args.port.now) (g.D.Disk.fetches c.loop-alloc.port)
-            (g.D.Disk.fetches c.change_one.new.port) went c.in-Some.ensures.items (ap (λ (face : Face). face.flight) made.face) made.pins c.in-Ok.ensures.answers c.in-Ok.ensures.written so_far.3,
+            (g.D.Disk.fetches c.change_one.new.port) went c.in-Some.ensures.items (ap (λ (face : Face). face.flights) made.face) made.pins c.in-Ok.ensures.answers c.in-Ok.ensures.written so_far.3,
       );
       fresh = never_fresh tells old mid new then c.args.asked.items c.loop-alloc.left.items row.new.asked.items c.pop_front.new.self.items c.pop_front.new.self.items row.result.done c.in-Some.change
           (face_of new) c.loop-alloc.invariant.fresh went c.in-Some.ensures.items c.in-Ok.ensures.answers;

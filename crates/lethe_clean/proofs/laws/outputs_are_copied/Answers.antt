@@ -2,4 +2,4 @@ use Rattle.lethe_clean.proofs.Copied.{page_copied}
 use Rattle.lethe_clean.proofs.laws.outputs_are_copied.Goals as goal
 
 pub returns : goal.returns
-returns c = λ s m coherent begun erases alone drafts are number bytes there. page_copied s m coherent begun erases alone drafts are number bytes there
+returns c = λ config inputs erases alone drafts are number bytes there. page_copied inputs erases alone config drafts are number bytes there

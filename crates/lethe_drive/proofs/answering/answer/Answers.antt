@@ -59,7 +59,7 @@ module _ {T U : Type 0} (see : T → U) (PortsFail : Type 0) (read : Read) (told
 
 pub returns-in-Put-clause-jobs : goal.returns-in-Put-clause-jobs
 returns-in-Put-clause-jobs g c =
-    theirs_on g.D.Disk.tells (view_of c.args.engine.now.core) (view_of c.put.new.self.core) c.args.jobs.now (ap (λ (face : Face). face.flight) c.put.ensures.answers.face_is) (ap (λ (face : Face). face.rounds) c.put.ensures.answers.face_is) c.requires.jobs
+    theirs_on g.D.Disk.tells (view_of c.args.engine.now.core) (view_of c.put.new.self.core) c.args.jobs.now (ap (λ (face : Face). face.flights) c.put.ensures.answers.face_is) (ap (λ (face : Face). face.rounds) c.put.ensures.answers.face_is) c.requires.jobs
 
 pub returns-in-Put-clause-step : goal.returns-in-Put-clause-step
 returns-in-Put-clause-step g c = λ told config opened h answered stands s known.
@@ -74,7 +74,7 @@ returns-in-Put-clause-step g c = λ told config opened h answered stands s known
     let before = moment_of old s (g.D.Disk.fetches c.args.port.now) (g.D.Disk.port_faults c.args.port.now) jobs.begun (there_of jobs) snapshots in
     let stood = stands_call c.put.ensures.answers told config opened h answered stands in
     let is = changed g.D.Disk.tells g.D.Disk.ports_fail told Put (λ s headers next. next ≡ put_over s c.in-Put.key c.in-Put.dkey c.in-Put.value) config opened h old new s known
-    (g.D.Disk.fetches c.args.port.now) fetches (g.D.Disk.port_faults c.args.port.now) faults jobs.begun (there_of jobs) snapshots stands.since (ap (λ (face : Face). face.flight) c.put.ensures.answers.face_is)
+    (g.D.Disk.fetches c.args.port.now) fetches (g.D.Disk.port_faults c.args.port.now) faults jobs.begun (there_of jobs) snapshots stands.since (ap (λ (face : Face). face.flights) c.put.ensures.answers.face_is)
     c.put.ensures.pins (λ room. room) (λ t begun. begun) result stood.since c.put.ensures.answers.still c.put.ensures.answers.refused c.put.ensures.place c.put.ensures.why
     (λ holds. on_ok result _ _ (c.put.ensures.written told s holds) (λ done. (done.0, done.1, put_over done.0 c.in-Put.key c.in-Put.dkey c.in-Put.value, done.2, refl, done.3, done.4, done.5)))
     (λ at e. (c.put.ensures.stopped at e).0) (λ runs full. (c.put.ensures.exhausted runs full).0) in
@@ -85,7 +85,7 @@ returns-in-Put-clause-step g c = λ told config opened h answered stands s known
 
 pub returns-in-Delete-clause-jobs : goal.returns-in-Delete-clause-jobs
 returns-in-Delete-clause-jobs g c =
-    theirs_on g.D.Disk.tells (view_of c.args.engine.now.core) (view_of c.delete.new.self.core) c.args.jobs.now (ap (λ (face : Face). face.flight) c.delete.ensures.answers.face_is) (ap (λ (face : Face). face.rounds) c.delete.ensures.answers.face_is) c.requires.jobs
+    theirs_on g.D.Disk.tells (view_of c.args.engine.now.core) (view_of c.delete.new.self.core) c.args.jobs.now (ap (λ (face : Face). face.flights) c.delete.ensures.answers.face_is) (ap (λ (face : Face). face.rounds) c.delete.ensures.answers.face_is) c.requires.jobs
 
 pub returns-in-Delete-clause-step : goal.returns-in-Delete-clause-step
 returns-in-Delete-clause-step g c = λ told config opened h answered stands s known.
@@ -100,7 +100,7 @@ returns-in-Delete-clause-step g c = λ told config opened h answered stands s kn
     let before = moment_of old s (g.D.Disk.fetches c.args.port.now) (g.D.Disk.port_faults c.args.port.now) jobs.begun (there_of jobs) snapshots in
     let stood = stands_call c.delete.ensures.answers told config opened h answered stands in
     let is = changed g.D.Disk.tells g.D.Disk.ports_fail told Delete (λ s headers next. IsDeleteOver s headers c.in-Delete.key next) config opened h old new s known
-    (g.D.Disk.fetches c.args.port.now) fetches (g.D.Disk.port_faults c.args.port.now) faults jobs.begun (there_of jobs) snapshots stands.since (ap (λ (face : Face). face.flight) c.delete.ensures.answers.face_is)
+    (g.D.Disk.fetches c.args.port.now) fetches (g.D.Disk.port_faults c.args.port.now) faults jobs.begun (there_of jobs) snapshots stands.since (ap (λ (face : Face). face.flights) c.delete.ensures.answers.face_is)
     c.delete.ensures.pins (λ room. room) (λ t begun. begun) result stood.since c.delete.ensures.answers.still c.delete.ensures.answers.refused c.delete.ensures.place c.delete.ensures.why (c.delete.ensures.written told s)
     (λ at e. (c.delete.ensures.stopped at e).0) (λ runs full. (c.delete.ensures.exhausted runs full).0) in
     subst (Comes g.D.Disk.ports_fail config opened h answered before new (λ t. moment_of new t fetches faults jobs.begun (there_of jobs) snapshots) c.placed-in-Delete.result) (sym c.in-Delete.is)
@@ -111,7 +111,7 @@ returns-in-Delete-clause-step g c = λ told config opened h answered stands s kn
 pub returns-in-Erase-clause-jobs : goal.returns-in-Erase-clause-jobs
 returns-in-Erase-clause-jobs g c =
     let face = c.erase.ensures.answers.face_is in
-    theirs_on g.D.Disk.tells (view_of c.args.engine.now.core) (view_of c.erase.new.self.core) c.args.jobs.now (ap (λ (face : Face). face.flight) face) (ap (λ (face : Face). face.rounds) face) c.requires.jobs
+    theirs_on g.D.Disk.tells (view_of c.args.engine.now.core) (view_of c.erase.new.self.core) c.args.jobs.now (ap (λ (face : Face). face.flights) face) (ap (λ (face : Face). face.rounds) face) c.requires.jobs
 
 pub returns-in-Erase-clause-step : goal.returns-in-Erase-clause-step
 returns-in-Erase-clause-step g c = λ told config opened h answered stands s known.
@@ -126,7 +126,7 @@ returns-in-Erase-clause-step g c = λ told config opened h answered stands s kno
     let before = moment_of old s (g.D.Disk.fetches c.args.port.now) (g.D.Disk.port_faults c.args.port.now) jobs.begun (there_of jobs) snapshots in
     let stood = stands_call c.erase.ensures.answers told config opened h answered stands in
     let is = changed g.D.Disk.tells g.D.Disk.ports_fail told Erase (λ s headers next. next ≡ erase_over s c.in-Erase.range) config opened h old new s known
-    (g.D.Disk.fetches c.args.port.now) fetches (g.D.Disk.port_faults c.args.port.now) faults jobs.begun (there_of jobs) snapshots stands.since (ap (λ (face : Face). face.flight) c.erase.ensures.answers.face_is)
+    (g.D.Disk.fetches c.args.port.now) fetches (g.D.Disk.port_faults c.args.port.now) faults jobs.begun (there_of jobs) snapshots stands.since (ap (λ (face : Face). face.flights) c.erase.ensures.answers.face_is)
     c.erase.ensures.pins (λ room. room) (λ t begun. begun) result stood.since c.erase.ensures.answers.still c.erase.ensures.answers.refused c.erase.ensures.place c.erase.ensures.why
     (λ holds. on_ok result _ _ (c.erase.ensures.written told s holds) (λ done. (done.0, done.1, erase_over done.0 c.in-Erase.range, done.2, refl, done.3, done.4, done.5)))
     (λ at e. (c.erase.ensures.stopped at e).0) (λ runs full. (c.erase.ensures.exhausted runs full).0) in
@@ -224,7 +224,7 @@ returns-in-Scan-clause-step g c = λ told config opened h answered stands s know
 
 pub returns-in-Freeze-clause-jobs : goal.returns-in-Freeze-clause-jobs
 returns-in-Freeze-clause-jobs g c =
-    theirs_on g.D.Disk.tells (view_of c.args.engine.now.core) (view_of c.freeze.new.self.core) c.args.jobs.now (ap (λ (face : Face). face.flight) c.freeze.ensures.answers.face_is) (ap (λ (face : Face). face.rounds) c.freeze.ensures.answers.face_is) c.requires.jobs
+    theirs_on g.D.Disk.tells (view_of c.args.engine.now.core) (view_of c.freeze.new.self.core) c.args.jobs.now (ap (λ (face : Face). face.flights) c.freeze.ensures.answers.face_is) (ap (λ (face : Face). face.rounds) c.freeze.ensures.answers.face_is) c.requires.jobs
 
 pub returns-in-Freeze-clause-step : goal.returns-in-Freeze-clause-step
 returns-in-Freeze-clause-step g c = λ told config opened h answered stands s known.
@@ -246,7 +246,7 @@ returns-in-Freeze-clause-step g c = λ told config opened h answered stands s kn
 
 pub returns-in-Flush-clause-jobs : goal.returns-in-Flush-clause-jobs
 returns-in-Flush-clause-jobs g c =
-    theirs_on g.D.Disk.tells (view_of c.args.engine.now.core) (view_of c.flush.new.self.core) c.args.jobs.now (ap (λ (face : Face). face.flight) c.flush.ensures.answers.face_is) (ap (λ (face : Face). face.rounds) c.flush.ensures.answers.face_is) c.requires.jobs
+    theirs_on g.D.Disk.tells (view_of c.args.engine.now.core) (view_of c.flush.new.self.core) c.args.jobs.now (ap (λ (face : Face). face.flights) c.flush.ensures.answers.face_is) (ap (λ (face : Face). face.rounds) c.flush.ensures.answers.face_is) c.requires.jobs
 
 pub returns-in-Flush-clause-step : goal.returns-in-Flush-clause-step
 returns-in-Flush-clause-step g c = λ told config opened h answered stands s known.
@@ -316,7 +316,7 @@ pub returns-in-Pin-clause-jobs : goal.returns-in-Pin-clause-jobs
 returns-in-Pin-clause-jobs g c =
     let same = c.pin.ensures.same in
     let view : view_of c.pin.new.engine.core ≡ record (view_of c.args.engine.now.core) { pins = (view_of c.pin.new.engine.core).pins } = λ i. view_of (same i).core in
-    theirs_on g.D.Disk.tells (view_of c.args.engine.now.core) (view_of c.pin.new.engine.core) c.args.jobs.now (ap (λ (view : View). view.flight) view) (ap (λ (view : View). view.rounds) view) c.requires.jobs
+    theirs_on g.D.Disk.tells (view_of c.args.engine.now.core) (view_of c.pin.new.engine.core) c.args.jobs.now (ap (λ (view : View). view.flights) view) (ap (λ (view : View). view.rounds) view) c.requires.jobs
 
 pub returns-in-Pin-clause-step : goal.returns-in-Pin-clause-step
 returns-in-Pin-clause-step g c = λ told config opened h answered stands s known.
@@ -331,7 +331,7 @@ pub returns-clause-jobs : goal.returns-clause-jobs
 returns-clause-jobs g c =
     let same = c.release.ensures.same in
     let view : view_of c.release.new.engine.core ≡ record (view_of c.args.engine.now.core) { pins = (view_of c.release.new.engine.core).pins } = λ i. view_of (same i).core in
-    theirs_on g.D.Disk.tells (view_of c.args.engine.now.core) (view_of c.release.new.engine.core) c.args.jobs.now (ap (λ (view : View). view.flight) view) (ap (λ (view : View). view.rounds) view) c.requires.jobs
+    theirs_on g.D.Disk.tells (view_of c.args.engine.now.core) (view_of c.release.new.engine.core) c.args.jobs.now (ap (λ (view : View). view.flights) view) (ap (λ (view : View). view.rounds) view) c.requires.jobs
 
 pub returns-clause-step : goal.returns-clause-step
 returns-clause-step g c = λ told config opened h answered stands s known.

@@ -51,7 +51,7 @@ returns-else-rounds-clause-jobs g c =
     let face = c.tick-answer.ensures.answers.face_is in
     let few = c.if-rounds.false in
     let stays = face_stays c.args.to old new face (not_passed c.args.to old new face (omega (arith, few, c.rounds.ensures, c.rounds-rounds.ensures))) in
-    theirs_on g.D.Disk.tells old new c.args.jobs.now (ap (λ (face : Face). face.flight) stays) (ap (λ (face : Face). face.rounds) stays) c.requires.jobs
+    theirs_on g.D.Disk.tells old new c.args.jobs.now (ap (λ (face : Face). face.flights) stays) (ap (λ (face : Face). face.rounds) stays) c.requires.jobs
 
 pub returns-else-rounds-clause-step : goal.returns-else-rounds-clause-step
 returns-else-rounds-clause-step g c = λ told config opened h answered stands s known snapshots.

@@ -1,16 +1,16 @@
-use Rattle.std.proofs.Common.{◌≡◌, Ok, Err, None, refl, ap, subst}
+use Rattle.std.proofs.Common.{◌≡◌, [], ◌∷◌, ◌++◌, Ok, Err, None, refl, sym, ap, ◌∙◌, subst}
 use Rattle.lethe_base.specs.History.{History}
 use Rattle.lethe_base.specs.declared.call.Call.TheVariants.{Work}
 use Rattle.lethe_base.specs.declared.refused.Refused.TheVariants.{NothingDue, Stopped}
 use Rattle.lethe_advance.specs.Shown.{parts_by_level}
 use Rattle.lethe_job.specs.Works.{plain_task}
-use Rattle.lethe_core.specs.View.{Face, flying_of, view_of}
+use Rattle.lethe_core.specs.View.{Face, view_of}
 use Rattle.lethe_core.proofs.Asked.{refused_none}
 use Rattle.lethe_engine.specs.StandsFor.{StandsFor}
 use Rattle.lethe_engine.proofs.Reasons.{no_failure_of_begin}
 use Rattle.lethe_drive.specs.Moments.{there_of}
 use Rattle.lethe_drive.proofs.Certificates.{stands_call}
-use Rattle.lethe_drive.proofs.Freezing.{has_begun, has_not_begun, known_idle, some_mapped}
+use Rattle.lethe_drive.proofs.Freezing.{has_begun, has_not_begun, known_idle}
 use Rattle.lethe_drive.proofs.Giving.{begun_reads, theirs_on}
 use Rattle.lethe_drive.proofs.Kept.{kept_call}
 use Rattle.lethe_drive.proofs.Knowing.{known_held, not_stopped, ok_or_err, refused_as}
@@ -36,6 +36,10 @@ returns-in-Ok-clause-step g c = λ told config opened h answered stands s known 
     let is = c.in-Ok.ensures in
     let runs : old.state.stopped ≡ None = not_stopped old.state.stopped (λ at e. ok_or_err job (Stopped at) (is.stopped at e).0) in
     let begun = is.begun told s (known.held runs) in
+    let face = ap (λ (face : Face). face.flights) is.answers.face_is in
+    let first : old.begun ≡ job.number = sym is.number.0 in
+    let flies : new.flights ≡ old.flights ++ record { number = job.number; task = plain_task job.task.value; written = [] } ∷ [] =
+    face ∙ (λ i. old.flights ++ record { number = first i; task = plain_task job.task.value; written = [] } ∷ []) in
     let retired : new.retired ≡ old.retired = let left = is.same.2 in λ i. (left i).items in
     let pins : new.pins ≡ old.pins = is.pins in
     let stood = stands_call is.answers told config opened h answered stands in (
@@ -47,13 +51,13 @@ returns-in-Ok-clause-step g c = λ told config opened h answered stands s known 
         Ok jobs.begun,
         refl,
         has_begun config h old new s fetches faults jobs.begun (there_of jobs) snapshots is.same.0 (λ i. parts_by_level (is.same.1 i)) retired pins (is.idle told) g.D.Disk.tells job is.number.1 runs
-            (λ busy. ok_or_err job NothingDue (is.busy runs (some_mapped flying_of c.args.engine.now.core.flight busy)).0) begun.0 is.works is.unmade.0 is.unmade.2,
+            (λ busy. ok_or_err job NothingDue (is.busy runs busy).0) flies begun.0 is.works is.unmade.0 is.unmade.2,
       ),
     )
 
 pub returns-in-Err-clause-jobs : goal.returns-in-Err-clause-jobs
 returns-in-Err-clause-jobs g c =
-    theirs_on g.D.Disk.tells (view_of c.args.engine.now.core) (view_of c.begin.new.self.core) c.args.jobs.now (ap (λ (face : Face). face.flight) c.in-Err.ensures.answers.face_is) (ap (λ (face : Face). face.rounds) c.in-Err.ensures.answers.face_is) c.requires.jobs
+    theirs_on g.D.Disk.tells (view_of c.args.engine.now.core) (view_of c.begin.new.self.core) c.args.jobs.now (ap (λ (face : Face). face.flights) c.in-Err.ensures.answers.face_is) (ap (λ (face : Face). face.rounds) c.in-Err.ensures.answers.face_is) c.requires.jobs
 
 pub returns-in-Err-clause-step : goal.returns-in-Err-clause-step
 returns-in-Err-clause-step g c = λ told config opened h answered stands s known fetches faults snapshots.
@@ -62,7 +66,7 @@ returns-in-Err-clause-step g c = λ told config opened h answered stands s known
     let jobs = c.args.jobs.now in
     let why = c.in-Err.why in
     let is = c.in-Err.ensures in
-    let flight : new.flight ≡ old.flight = ap (λ (face : Face). face.flight) is.answers.face_is in
+    let flight : new.flights ≡ old.flights = ap (λ (face : Face). face.flights) is.answers.face_is in
     let retired : new.retired ≡ old.retired = let left = is.same.2 in λ i. (left i).items in
     let pins : new.pins ≡ old.pins = is.pins in
     let levels : new.levels ≡ old.levels = λ i. parts_by_level (is.same.1 i) in (
@@ -75,7 +79,7 @@ returns-in-Err-clause-step g c = λ told config opened h answered stands s known
         refl,
         has_not_begun config h old new s fetches faults jobs.begun (there_of jobs) snapshots is.same.0 levels retired pins (is.idle told) g.D.Disk.tells told known why is.why flight
             (λ at e. refused_as c.begin.result why (Stopped at) c.in-Err.is (c.begin.ensures.stopped at e).0)
-            (λ runs busy. refused_as c.begin.result why NothingDue c.in-Err.is (c.begin.ensures.busy runs (some_mapped flying_of c.args.engine.now.core.flight busy)).0),
+            (λ runs busy. refused_as c.begin.result why NothingDue c.in-Err.is (c.begin.ensures.busy runs busy).0),
       ),
     )
 

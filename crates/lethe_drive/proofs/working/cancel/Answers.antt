@@ -1,12 +1,14 @@
-use Rattle.std.proofs.Common.{◌≡◌, inl, inr, Some, None, sym, ap, ◌∙◌}
+use Rattle.std.proofs.Common.{◌≡◌, inl, inr, Option, Some, None, sym, ap, ◌∙◌, subst}
+use Rattle.std.specs.Prelude.{IfSome}
 use Rattle.std.specs.Result.{result_err}
 use Rattle.lethe_base.specs.declared.call.Call.TheVariants.{Work}
 use Rattle.lethe_core.specs.Asked.{Serves, behind}
+use Rattle.lethe_core.specs.Flights.{without}
 use Rattle.lethe_core.specs.View.{Face, face_of, view_of}
 use Rattle.lethe_engine.proofs.Faces.{given_up_free}
 use Rattle.lethe_engine.proofs.Rounds.{cancelled_flying}
 use Rattle.lethe_drive.specs.Certificates.{certificates_of}
-use Rattle.lethe_drive.specs.Moments.{going_of, moment_of, there_of}
+use Rattle.lethe_drive.specs.Moments.{Going, going_of, moment_of, there_of}
 use Rattle.lethe_drive.specs.Steps.{IsThere}
 use Rattle.lethe_drive.proofs.Certificates.{none_united, stands_call}
 use Rattle.lethe_drive.proofs.Giving.{given, given_up, given_up_rounds, theirs_back, theirs_flies, theirs_none}
@@ -63,7 +65,7 @@ returns-clause-rounds g c =
     let jobs = c.args.jobs.now in
     let numbered = c.in-Some.numbered in
     let flies = theirs_flies g.D.Disk.tells old jobs c.requires.jobs numbered (sym c.take.ensures.value ∙ c.in-Some.is) in
-    ap (λ (face : Face). face.rounds) (c.cancel.ensures.answers.face_is ∙ cancelled_flying old numbered.job flies) ∙ given_up_rounds (face_of old) old.state
+    ap (λ (face : Face). face.rounds) (c.cancel.ensures.answers.face_is ∙ cancelled_flying old numbered.job flies) ∙ given_up_rounds numbered.job.number (face_of old) old.state
 
 pub returns-clause-step : goal.returns-clause-step
 returns-clause-step g c = λ told config opened h answered stands s known fetches faults snapshots.
@@ -78,7 +80,8 @@ returns-clause-step g c = λ told config opened h answered stands s known fetche
     let stood = stands_call is.answers told config opened h answered stands in
     let is_given =
     given_up g.D.Disk.tells told config opened h old new s known fetches faults jobs.begun (there_of jobs) (there_of gone) snapshots (there_none gone c.take.ensures.after) c.cancel.result
-    stood.since is.answers.still is.answers.refused (is.held told s) (λ may. ap (λ (face : Face). face.flight) (face ∙ given_up_free (face_of old) old.state may))
+    stood.since is.answers.still is.answers.refused (is.held told s) (λ may. subst (λ (there : Option Going). IfSome there (λ going. new.flights ≡ without going.own old.flights)) (sym (there_is jobs numbered there))
+    (ap (λ (face : Face). face.flights) (face ∙ given_up_free numbered.job.number (face_of old) old.state may)))
     (let left = is.retired in λ i. (left i).items) is.pins is.why is.no_memory is.exhausted (λ at e. (is.stopped at e).0)
     (λ runs full. let last = is.last runs full in (given c.cancel.result last.0, (let same = last.1 in λ i. view_of (same i).core))) in (
       behind h 0 (Serves Work) (result_err c.cancel.result),

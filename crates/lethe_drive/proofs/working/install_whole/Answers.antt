@@ -17,7 +17,7 @@ returns-in-Err-clause-step g c = λ told config opened h answered stands s known
       step.1,
       step.2,
       rest_refused g.D.Disk.tells g.D.Disk.ports_fail h (view_of c.args.engine.now.core) s numbered.number fetches faults c.args.jobs.now.begun snapshots numbered.job (view_of c.write_rest.new.engine.core) step.0
-          c.write_rest.new.job c.in-Err.why c.write_rest.ensures.task c.write_rest.ensures.round c.in-Err.ensures.refused step.3,
+          c.write_rest.new.job c.in-Err.why c.write_rest.ensures.task c.write_rest.ensures.number c.write_rest.ensures.round c.in-Err.ensures.refused step.3,
     )
 
 pub returns-in-Ok-clause-step : goal.returns-in-Ok-clause-step
@@ -26,8 +26,8 @@ returns-in-Ok-clause-step g c = λ told config opened h answered stands s known 
     let step = c.in_default.ensures.step told config opened h answered stands s known in
     let stood = stands_call c.in-Ok.ensures.answers told config opened h answered step.2 in
     let made = installed_whole g.D.Disk.tells g.D.Disk.ports_fail h (view_of c.args.engine.now.core) s numbered.number fetches faults c.args.jobs.now.begun snapshots numbered.job config opened tt
-    (view_of c.write_rest.new.engine.core) (view_of c.install.new.self.core) stood.since c.write_rest.new.job step.0 (there_of c.args.jobs.now) c.write_rest.ensures.task step.1 step.3.done
-    (λ at is. (c.in-Ok.ensures.stopped at is).1) step.3.flight (c.in-Ok.ensures.done told step.0) (ap (λ (face : Face). face.flight) c.in-Ok.ensures.answers.face_is)
+    (view_of c.write_rest.new.engine.core) (view_of c.install.new.self.core) stood.since c.write_rest.new.job step.0 (there_of c.args.jobs.now) c.write_rest.ensures.task c.write_rest.ensures.number step.1 step.3.done
+    (λ at is. (c.in-Ok.ensures.stopped at is).1) step.3.flights (c.in-Ok.ensures.done told step.0) (ap (λ (face : Face). face.flights) c.in-Ok.ensures.answers.face_is)
     c.in-Ok.ensures.pins step.3.pins c.in-Ok.ensures.named (there_none c.args.jobs.now c.requires.none) in
     (made.0, made.1, stood, made.2)
 
@@ -52,9 +52,9 @@ returns-in-Err-install-clause-step g c = λ told config opened h answered stands
     let not_made =
     install_refused g.D.Disk.tells g.D.Disk.ports_fail h (view_of c.args.engine.now.core) s numbered.number fetches faults c.args.jobs.now.begun snapshots numbered.job told (c.requires.reads told)
     (view_of c.write_rest.new.engine.core) c.write_rest.new.job c.write_rest.ensures.task c.in_default.ensures.works c.in_default.ensures.whole config opened stands.since step.2.since c.write_rest.ensures.faults
-    step.0 step.1 step.3.done step.3.flight step.3.retired step.3.pins (view_of c.install.new.self.core) c.in-Err-install.job c.in-Err-install.why after.since is.answers.still is.answers.refused is.answers.face_is
+    step.0 step.1 step.3.done step.3.flights step.3.retired step.3.pins (view_of c.install.new.self.core) c.in-Err-install.job c.in-Err-install.why after.since is.answers.still is.answers.refused is.answers.face_is
     (let left = is.left in λ i. (left i).items) is.pins
-    (task_back numbered.job c.write_rest.new.job c.in-Err-install.job c.write_rest.ensures.task is.handed.0) (is.handed.2 ∙ c.write_rest.ensures.round) is.back.1
+    (task_back numbered.job c.write_rest.new.job c.in-Err-install.job c.write_rest.ensures.task is.handed.0) (is.handed.1 ∙ c.write_rest.ensures.number) (is.handed.2 ∙ c.write_rest.ensures.round) is.back.1
     (reason_of_work mid whole (IsShortToInstall mid whole) (view_of c.install.new.self.core) c.in-Err-install.why (flies_now mid whole c.in_default.ensures.works.flies) is.why) is.drawn in
     (not_made.0, not_made.1, after, not_made.2)
 

@@ -1,5 +1,10 @@
-use Rattle.std.proofs.Common.{rules, ◌≡◌, ◌<◌, ◌≤◌, ℕ, inl, Some, None, ap, ◌∙◌, subst}
-use Rattle.lethe_base.specs.Limits.{max_place}
+use Rattle.std.proofs.Common.{rules, ◌≡◌, ◌<◌, ◌≤◌, ℕ, All, inl, Some, None, sym, ap, ◌∙◌, subst}
+use Rattle.std.proofs.lemmas.List.Elements.{All-contains}
+use Rattle.lethe_base.specs.Limits.{max_place, max_time}
+use Rattle.lethe_base.specs.declared.pending.Pending.{Pending}
+use Rattle.lethe_job.specs.Works.{PlainTask, erases_of}
+use Rattle.lethe_core.specs.Running.{IsFlying}
+use Rattle.lethe_core.proofs.Flying.{flying_there}
 use Rattle.lethe_base.specs.declared.refused.Refused.TheVariants.{Stopped}
 use Rattle.lethe_core.specs.View.{Face, View, view_of}
 use Rattle.lethe_engine.specs.Jobs.{IsPast}
@@ -11,11 +16,21 @@ use Rattle.lethe_drive.proofs.Writing.{fewer_left, left_of, none_left, still_wor
 use Rattle.lethe_drive.proofs.Kept.{kept_call, kept_itself}
 use Rattle.lethe_drive.proofs.working.write_next.Goals as goal
 
+-- the erases of a job in flight have times
+
+pub next_piece-requires-clause-erases : goal.next_piece-requires-clause-erases
+next_piece-requires-clause-erases g c κs within =
+    let view = view_of c.args.engine.now.core in
+    let flies = c.requires.works.flies in
+    let there = flying_there c.args.job.now.number view.flights flies.flying flies.is in
+    let is = All-contains (IsFlying view.state) view.flights flies.flying c.requires.sound.flies there.0 in
+    subst (λ (task : PlainTask). All (λ (erase : Pending). erase.time ≤ max_time) (erases_of task)) (sym flies.task) is.erases
+
 -- the outputs can't be made
 
 pub returns-in_err-piece-clause-step : goal.returns-in_err-piece-clause-step
 returns-in_err-piece-clause-step g c = λ told config opened h answered stands s known number fetches faults begun snapshots.
-    unread_paged g.D.Disk.tells g.D.Disk.ports_fail h (view_of c.args.engine.now.core) s number fetches faults begun snapshots c.args.job.now c.next_piece.new.self c.next_piece.ensures.task c.next_piece.ensures.round config opened
+    unread_paged g.D.Disk.tells g.D.Disk.ports_fail h (view_of c.args.engine.now.core) s number fetches faults begun snapshots c.args.job.now c.next_piece.new.self c.next_piece.ensures.task c.next_piece.ensures.number c.next_piece.ensures.round config opened
     told (c.requires.reads told) answered stands known c.from_residual.result c.in_err-piece.field-0.0 (search rules) c.in_err-piece.ensures.unread c.in_err-piece.ensures.err
 
 -- there is a next page
@@ -37,12 +52,15 @@ returns-in_err-write_out-in-Some-clause-step g c = λ told config opened h answe
     let present : IsPast old mid → ⊥ = λ past. flies_now old c.args.job.now c.requires.works.flies (subst (λ (round : ℕ). round < old.rounds) c.next_piece.ensures.round past) in
     let reason = reason_of_work old mid (max_place ≤ old.state.next) (view_of c.write_out.new.self.core) why present refused.why in
     refused_paged g.D.Disk.tells g.D.Disk.ports_fail h (view_of c.args.engine.now.core) s number fetches faults begun snapshots c.args.job.now c.write_out.new.job (same ∙ c.next_piece.ensures.task)
-    (c.write_out.ensures.same.4 ∙ c.next_piece.ensures.round) told config opened known (view_of c.write_out.new.self.core) c.in_err-write_out-in-Some.field-0.0 refused.answers.refused refused.answers.face_is
+    (c.write_out.ensures.same.3 ∙ c.next_piece.ensures.number) (c.write_out.ensures.same.4 ∙ c.next_piece.ensures.round) told config opened known (view_of c.write_out.new.self.core) c.in_err-write_out-in-Some.field-0.0 refused.answers.refused refused.answers.face_is
     (let left = refused.retired in λ i. (left i).items) refused.pins refused.answers.still
     c.from_residual-in_err-write_out-in-Some.result (search rules) answered (stands_call refused.answers told config opened h answered stands) reason refused.refused
 
 pub returns-in_err-write_out-in-Some-clause-rounds : goal.returns-in_err-write_out-in-Some-clause-rounds
 returns-in_err-write_out-in-Some-clause-rounds g c = ap (λ (face : Face). face.rounds) c.in_err-write_out-in-Some.ensures.answers.face_is
+
+pub returns-in_err-write_out-in-Some-clause-number : goal.returns-in_err-write_out-in-Some-clause-number
+returns-in_err-write_out-in-Some-clause-number g c = c.write_out.ensures.same.3 ∙ c.next_piece.ensures.number
 
 pub returns-in_err-write_out-in-Some-clause-round : goal.returns-in_err-write_out-in-Some-clause-round
 returns-in_err-write_out-in-Some-clause-round g c = c.write_out.ensures.same.4 ∙ c.next_piece.ensures.round
@@ -51,6 +69,9 @@ returns-in_err-write_out-in-Some-clause-round g c = c.write_out.ensures.same.4 �
 
 pub returns-in_ok-write_out-in-Some-clause-rounds : goal.returns-in_ok-write_out-in-Some-clause-rounds
 returns-in_ok-write_out-in-Some-clause-rounds g c = ap (λ (face : Face). face.rounds) c.in_ok-write_out-in-Some.ensures.answers.face_is
+
+pub returns-in_ok-write_out-in-Some-clause-number : goal.returns-in_ok-write_out-in-Some-clause-number
+returns-in_ok-write_out-in-Some-clause-number g c = c.write_out.ensures.same.3 ∙ c.next_piece.ensures.number
 
 pub returns-in_ok-write_out-in-Some-clause-round : goal.returns-in_ok-write_out-in-Some-clause-round
 returns-in_ok-write_out-in-Some-clause-round g c = c.write_out.ensures.same.4 ∙ c.next_piece.ensures.round
@@ -78,8 +99,8 @@ returns-in_ok-write_out-in-Some-clause-step g c = λ told config opened h answer
       s,
       known_held config opened h new stood.since s (written.held told s (known.held runs)),
       stood,
-      page_written g.D.Disk.tells g.D.Disk.ports_fail h old s number fetches faults begun snapshots c.args.job.now mid c.next_piece.ensures.task c.next_piece.ensures.round told (c.requires.reads told) c.requires.works
-          c.next_piece.ensures.written asked.made c.next_piece.ensures.job new c.write_out.new.job (λ i. (c.write_out.ensures.same.1 i).value) c.write_out.ensures.same.4 written.works.asked written.written
+      page_written g.D.Disk.tells g.D.Disk.ports_fail h old s number fetches faults begun snapshots c.args.job.now mid c.next_piece.ensures.task c.next_piece.ensures.number c.next_piece.ensures.round told (c.requires.reads told) c.requires.works
+          c.next_piece.ensures.written asked.made c.next_piece.ensures.job new c.write_out.new.job (λ i. (c.write_out.ensures.same.1 i).value) c.write_out.ensures.same.3 c.write_out.ensures.same.4 written.works.asked written.written
           (left_of mid.made next c.in-Some.piece c.args.job.now.written is asked.left) written.answers.face_is (let left = written.retired in λ i. (left i).items) written.pins (written.page told),
     )
 
@@ -100,7 +121,7 @@ returns-in-None-clause-step g c = λ told config opened h answered stands s know
       s,
       known,
       stands,
-      no_page g.D.Disk.tells g.D.Disk.ports_fail h old s number fetches faults begun snapshots c.args.job.now mid c.next_piece.ensures.task c.next_piece.ensures.round told (c.requires.reads told) c.requires.works c.next_piece.ensures.written asked.made
+      no_page g.D.Disk.tells g.D.Disk.ports_fail h old s number fetches faults begun snapshots c.args.job.now mid c.next_piece.ensures.task c.next_piece.ensures.number c.next_piece.ensures.round told (c.requires.reads told) c.requires.works c.next_piece.ensures.written asked.made
           c.next_piece.ensures.job asked.ok (none_left mid.made next c.args.job.now.written is asked.left),
     )
 

@@ -16,6 +16,7 @@ loop-init g c = record {
   sound = c.requires.sound;
   works = c.requires.works;
   task = refl;
+  number = refl;
   round = refl;
   rounds = refl;
   faults = omega arith;
@@ -33,6 +34,7 @@ loop-preserved g c =
       sound = c.write_next.ensures.sound;
       works = c.in_ok-write_next.ensures.works;
       task = c.write_next.ensures.task ∙ c.loop.invariant.task;
+      number = c.write_next.ensures.number ∙ c.loop.invariant.number;
       round = c.write_next.ensures.round ∙ c.loop.invariant.round;
       rounds = c.write_next.ensures.rounds ∙ c.loop.invariant.rounds;
       faults = let so_far = c.loop.invariant.faults in let more = c.write_next.ensures.faults in omega arith;
@@ -40,24 +42,24 @@ loop-preserved g c =
       pins = c.write_next.ensures.pins ∙ c.loop.invariant.pins;
       pinned = λ told. kept_then (view_of c.args.engine.now.core) (view_of c.loop.engine.core) (view_of c.write_next.new.engine.core) c.loop.invariant.pins (c.loop.invariant.pinned told) (c.write_next.ensures.pinned told);
       certificates = c.write_next.ensures.certificates ∙ c.loop.invariant.certificates;
-      rests = rests_on g.D.Disk.tells g.D.Disk.ports_fail (view_of c.args.engine.now.core) (view_of c.loop.engine.core) (view_of c.write_next.new.engine.core) c.loop.job c.write_next.new.job true c.loop.invariant.rests
-          (subst (Turns g.D.Disk.tells g.D.Disk.ports_fail (view_of c.args.engine.now.core) (view_of c.loop.engine.core) (view_of c.write_next.new.engine.core) c.loop.job c.write_next.new.job) ok c.write_next.ensures.step);
+      rests = rests_on g.D.Disk.tells g.D.Disk.ports_fail (view_of c.args.engine.now.core) (view_of c.loop.engine.core) (view_of c.write_next.new.engine.core) c.loop.job c.write_next.new.job c.args.job.now.number c.loop.invariant.number true c.loop.invariant.rests
+          (subst (Turns g.D.Disk.tells g.D.Disk.ports_fail (view_of c.args.engine.now.core) (view_of c.loop.engine.core) (view_of c.write_next.new.engine.core) c.loop.job c.write_next.new.job c.args.job.now.number) ok c.write_next.ensures.step);
     }
 
 pub returns-in_err-write_next-clause-step : goal.returns-in_err-write_next-clause-step
 returns-in_err-write_next-clause-step g c =
     let why = c.in_err-write_next.field-0.0 in
     let refusal : c.from_residual.result ≡ Err why = search rules in
-    subst (Comes g.D.Disk.tells g.D.Disk.ports_fail (view_of c.args.engine.now.core) (view_of c.loop.engine.core) (view_of c.write_next.new.engine.core) c.loop.job c.write_next.new.job (g.D.Disk.port_faults c.args.job.now.port)) (sym refusal)
-    (turn_refused g.D.Disk.tells g.D.Disk.ports_fail (view_of c.args.engine.now.core) (view_of c.loop.engine.core) (view_of c.write_next.new.engine.core) c.loop.job c.write_next.new.job c.args.job.now why
+    subst (Comes g.D.Disk.tells g.D.Disk.ports_fail (view_of c.args.engine.now.core) (view_of c.loop.engine.core) (view_of c.write_next.new.engine.core) c.loop.job c.write_next.new.job c.args.job.now.number (g.D.Disk.port_faults c.args.job.now.port)) (sym refusal)
+    (turn_refused g.D.Disk.tells g.D.Disk.ports_fail (view_of c.args.engine.now.core) (view_of c.loop.engine.core) (view_of c.write_next.new.engine.core) c.loop.job c.write_next.new.job c.args.job.now.number c.args.job.now why
     c.loop.invariant.rests c.in_err-write_next.ensures.step c.loop.invariant.faults c.in_err-write_next.ensures.drawn c.loop.invariant.port c.in_err-write_next.ensures.read)
 
 pub returns-clause-step : goal.returns-clause-step
 returns-clause-step g c =
     let none : c.write_next.result ≡ Ok false = c.in_ok-write_next.was ∙ ap Ok c.if-branch.false in
-    all_written g.D.Disk.tells g.D.Disk.ports_fail (view_of c.args.engine.now.core) (view_of c.loop.engine.core) (view_of c.write_next.new.engine.core) c.loop.job c.write_next.new.job (g.D.Disk.port_faults c.args.job.now.port)
-    (rests_on g.D.Disk.tells g.D.Disk.ports_fail (view_of c.args.engine.now.core) (view_of c.loop.engine.core) (view_of c.write_next.new.engine.core) c.loop.job c.write_next.new.job false c.loop.invariant.rests
-    (subst (Turns g.D.Disk.tells g.D.Disk.ports_fail (view_of c.args.engine.now.core) (view_of c.loop.engine.core) (view_of c.write_next.new.engine.core) c.loop.job c.write_next.new.job) none c.write_next.ensures.step))
+    all_written g.D.Disk.tells g.D.Disk.ports_fail (view_of c.args.engine.now.core) (view_of c.loop.engine.core) (view_of c.write_next.new.engine.core) c.loop.job c.write_next.new.job c.args.job.now.number (g.D.Disk.port_faults c.args.job.now.port)
+    (rests_on g.D.Disk.tells g.D.Disk.ports_fail (view_of c.args.engine.now.core) (view_of c.loop.engine.core) (view_of c.write_next.new.engine.core) c.loop.job c.write_next.new.job c.args.job.now.number c.loop.invariant.number false c.loop.invariant.rests
+    (subst (Turns g.D.Disk.tells g.D.Disk.ports_fail (view_of c.args.engine.now.core) (view_of c.loop.engine.core) (view_of c.write_next.new.engine.core) c.loop.job c.write_next.new.job c.args.job.now.number) none c.write_next.ensures.step))
 
 pub returns-in_err-write_next-clause-pinned : goal.returns-in_err-write_next-clause-pinned
 returns-in_err-write_next-clause-pinned g c = λ told. kept_then (view_of c.args.engine.now.core) (view_of c.loop.engine.core) (view_of c.write_next.new.engine.core) c.loop.invariant.pins (c.loop.invariant.pinned told) (c.write_next.ensures.pinned told)

@@ -1,6 +1,7 @@
 use Rattle.std.proofs.Common.{◌≡◌, ◌++◌, ◌≤◌, ◌<◌, length, false, All, arith, rules, ap, sym, ◌∙◌, subst}
 use Rattle.std.specs.Prelude.{IsTrue}
 use Rattle.std.proofs.lemmas.List.Elements.{All-weaker}
+use Rattle.lethe_advance.specs.Object.{Object}
 use Rattle.lethe_advance.specs.declared.new_header.NewHeader.{NewHeader}
 use Rattle.lethe_base.specs.Limits.{max_place}
 use Rattle.lethe_base.specs.declared.name.Kind.TheVariants.{Page}
@@ -13,7 +14,7 @@ use Rattle.lethe_sweep_task.specs.Outcome.{plain_sweep}
 use Rattle.lethe_install.proofs.Between.{install_from}
 use Rattle.lethe_install.proofs.Parted.{gone_unneeded, left_are, left_needed}
 use Rattle.lethe_install.proofs.SweepInstall.{replaced_is, sweep_installs}
-use Rattle.lethe_install.proofs.SweepParts.{cited_level, cited_spelled, parts_count, parts_level, parts_next, parts_spelled}
+use Rattle.lethe_install.proofs.SweepParts.{cited_level, cited_spelled, parts_count, parts_fresh, parts_level, parts_next, parts_spelled}
 use Rattle.lethe_install.proofs.sweeping.install.Goals as goal
 
 -- it names a page
@@ -62,6 +63,12 @@ pub returns-clause-objects : goal.returns-clause-objects
 returns-clause-objects g c = ok_weaker c.step_of.result _ _ c.step_of.ensures (λ made is. ap length is.objects
     ∙ parts_count c.args.task.now.level c.args.task.now.erase.seq c.args.pages.written.now c.next.result c.args.draft c.in_ok-made.made c.requires.some c.in_ok-made.ensures)
 
+pub returns-clause-fresh : goal.returns-clause-fresh
+returns-clause-fresh g c =
+    let next = c.args.state.now.next in
+    ok_weaker c.step_of.result _ _ c.step_of.ensures (λ made is. subst (All (λ (object : Object). next ≤ object.name.no)) (sym is.objects)
+    (parts_fresh c.args.task.now.level c.args.task.now.erase.seq c.args.pages.written.now next c.args.draft c.in_ok-made.made (rw c.next.ensures at c.in_ok-made.ensures)))
+
 pub returns-clause-named : goal.returns-clause-named
 returns-clause-named g c = ok_weaker c.step_of.result _ _ c.step_of.ensures (λ made is.
     subst (All (λ (name : Name). IsTrue (is_named c.args.pages.pins.now.pins name))) (sym is.left)
@@ -85,6 +92,6 @@ returns-clause-installs g c = λ s w levels beside is current rising begun named
     state.manifest.files c.in_ok-inputs.inputs (search rules) c.deref.ensures.value (c.items-cited.ensures ∙ ap (λ (m : Manifest). m.files) c.manifest.ensures) (c.in_ok-inputs.ensures task.file.level task.file.swept task.file.pages) in
     let pages = left_are IsPage c.args.pages.pins.now.pins c.requires.pages (c.in_ok-inputs.inputs.names.items ++ c.args.pages.retired.now) in
     ok_both c.step_of.result _ _ _ c.step_of.ensures (returns-clause-step g c) (λ made stepped from.
-    sweep_installs c.a_draft_is_left.ensures c.nothing_is_left.ensures s state levels is current c.requires.writable w task begun c.args.task.now.behind
+    sweep_installs c.a_draft_is_left.ensures c.nothing_is_left.ensures c.args.company s state levels is current c.requires.writable w task begun c.args.task.now.behind
     c.args.pages.retired.now c.args.pages.written.now c.args.draft drawn c.requires.some beside named uncited of c.in_ok-made.made c.in_ok-inputs.inputs are replaced
     (is_named c.args.pages.pins.now.pins) made stepped from.spelled (subst (All IsPage) (sym stepped.left) pages))

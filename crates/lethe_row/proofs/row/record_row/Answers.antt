@@ -46,7 +46,7 @@ loop-change-init g c =
       runs = c.requires.runs;
       version = c.hold.ensures.version;
       retired = c.hold.ensures.retired;
-      flight = c.hold.ensures.flight;
+      flights = c.hold.ensures.flights;
       begun = c.hold.ensures.begun;
       pins = c.hold.ensures.pins;
     }
@@ -83,7 +83,7 @@ loop-change-preserved g c =
       runs = c.requires.runs;
       version = c.pass_on.ensures.version ∙ c.loop-change.invariant.version;
       retired = c.pass_on.ensures.retired ∙ c.loop-change.invariant.retired;
-      flight = c.pass_on.ensures.flight ∙ c.loop-change.invariant.flight;
+      flights = c.pass_on.ensures.flights ∙ c.loop-change.invariant.flights;
       begun = c.pass_on.ensures.begun ∙ c.loop-change.invariant.begun;
       pins = c.pass_on.ensures.pins ∙ c.loop-change.invariant.pins;
     }

@@ -11,7 +11,7 @@ invariant-loop-change g l = record {
   runs : l.fn.core.state.stopped ≡ None;
   version : l.core.version ≡ l.fn.core.version;
   retired : l.core.retired ≡ l.fn.core.retired;
-  flight : l.core.flight ≡ l.fn.core.flight;
+  flights : l.core.flights ≡ l.fn.core.flights;
   begun : l.core.begun ≡ l.fn.core.begun;
   pins : l.core.pins ≡ l.fn.core.pins;
 }

@@ -20,7 +20,7 @@ use Rattle.lethe_core.specs.StandsNow.{StandsNow}
 use Rattle.lethe_core.specs.View.{View, view_of}
 use Rattle.lethe_core.proofs.Likes.{like_sound, like_stands, with_state}
 use Rattle.lethe_core.proofs.Recorded.{failed_left, moved}
-use Rattle.lethe_core.proofs.Standing.{left_at_end, moments_or, stands_back, stands_moments}
+use Rattle.lethe_core.proofs.Standing.{left_at_end, moments_or, sound_back, stands_back, stands_moments}
 use Rattle.lethe_row.specs.Rests.{IsHeldBack, at_rest}
 use Rattle.lethe_row.proofs.Rests.{first_held, first_ready, hold_kept, hold_later, hold_moments, one_held, ready_to_hold, rested_sound, rested_stands, sound_holds}
 use Rattle.lethe_row.proofs.waiting.hold.Goals as goal
@@ -168,7 +168,15 @@ returns-clause-stands g c = λ told config h caller call change stands.
     let mid = with_state (view_of c.args.core.now) c.prepare.new.self in
     let disk = g.D.Disk.seen c.append_first.new.disk in
     stands_back mid (moved mid disk (g.D.Disk.faults c.append_first.new.disk) c.prepare.new.self) (refused_at_once mid.disk disk (c.in-Err-NoMemory.ensures.no_memory told (ap Err c.in-Err-NoMemory.field-0-is))) config h refl
-    (record { levels = refl; retired = refl; flight = refl; begun = refl; rounds = refl; pins = refl }) (like_stands (view_of c.args.core.now) c.prepare.new.self c.prepare.ensures.same config h stands c.requires.may.runs)
+    (record { levels = refl; retired = refl; flights = refl; begun = refl; rounds = refl; pins = refl }) (like_stands (view_of c.args.core.now) c.prepare.new.self c.prepare.ensures.same config h stands c.requires.may.runs)
+
+pub returns-clause-sound : goal.returns-clause-sound
+returns-clause-sound g c =
+    let old = view_of c.args.core.now in
+    let mid = with_state old c.prepare.new.self in
+    let disk = g.D.Disk.seen c.append_first.new.disk in
+    sound_back g.D.Disk.tells mid (moved mid disk (g.D.Disk.faults c.append_first.new.disk) c.prepare.new.self) (λ told. refused_at_once mid.disk disk (c.in-Err-NoMemory.ensures.no_memory told (ap Err c.in-Err-NoMemory.field-0-is))) refl
+    (record { levels = refl; retired = refl; flights = refl; begun = refl; rounds = refl; pins = refl }) (like_sound old c.prepare.new.self c.prepare.ensures.same g.D.Disk.tells c.prepare.ensures.writable c.requires.may.sound)
 
 pub returns-clause-any_moment : goal.returns-clause-any_moment
 returns-clause-any_moment g c = λ told config h stands.

@@ -1,5 +1,5 @@
 use Rattle.std.proofs.Common.{rules, ◌≡◌, None, Option, Result, Err, sym, ap, ◌∙◌, subst, arith}
-use Rattle.std.specs.Prelude.{IfErr, option_map}
+use Rattle.std.specs.Prelude.{IfErr}
 use Rattle.std.specs.Result.{result_err}
 use Rattle.lethe_base.specs.declared.call.Call.TheVariants.{Tick}
 use Rattle.lethe_base.specs.declared.refused.Refused.{Refused}
@@ -13,7 +13,7 @@ use Rattle.lethe_stored.specs.Numbers.{GoesFrom}
 use Rattle.lethe_core.specs.Asked.{Makes, behind, counted, stopped_by, written_by}
 use Rattle.lethe_core.specs.StandsNow.{StandsNow}
 use Rattle.lethe_core.specs.Steps.{IsUndone}
-use Rattle.lethe_core.specs.View.{flying_of, view_of}
+use Rattle.lethe_core.specs.View.{view_of}
 use Rattle.lethe_core.proofs.Asked.{behind_none, counted_none, not_failed, stopped_none, written_none}
 use Rattle.lethe_core.proofs.Carried.{IsCarried}
 use Rattle.lethe_core.proofs.Hindered.{as_itself, hindered_count, hindered_next, hindered_sound, hindered_stopped, hindered_undone}
@@ -181,13 +181,13 @@ returns-clause-done g c = λ told s holds.
       files = c.in_ok-carry_out_spelled.ensures.files;
       levels = c.carry_out_spelled.ensures.levels;
       retired = λ i. (c.carry_out_spelled.ensures.retired i).items;
-      flight = ap (option_map flying_of) c.carry_out_spelled.ensures.flight;
+      flights = c.carry_out_spelled.ensures.flights;
       pins = c.carry_out_spelled.ensures.pins;
       calls = c.in_ok-carry_out_spelled.ensures.calls;
       faults = c.carry_out_spelled.ensures.faults;
     } in
     let from = subst (λ headers. IsStepFrom (segments_for old.state.frozen) old.state headers step) (sym c.new.ensures.items) c.in_ok-step.ensures.step in
-    ticked_holds g.D.Disk.tells old c.args.before c.args.to c.requires.may headers step c.new.ensures.items from c.in_ok-step.ensures.ticks new carried new_is (ap (option_map flying_of) c.requires.free)
+    ticked_holds g.D.Disk.tells old c.args.before c.args.to c.requires.may headers step c.new.ensures.items from c.in_ok-step.ensures.ticks new carried new_is c.requires.free
     (λ told. laws.itself told c.args.core.now.disk) told s holds
 
 pub returns-clause-pinned : goal.returns-clause-pinned
@@ -205,7 +205,7 @@ returns-clause-sound g c =
     let new_is : new.state ≡ moved step.manifest old.state = c.tick.ensures.is ∙ ap (moved step.manifest) c.in_ok-carry_out_spelled.ensures.state in
     let from = subst (λ headers. IsStepFrom (segments_for old.state.frozen) old.state headers step) (sym c.new.ensures.items) c.in_ok-step.ensures.step in
     ticked_sound g.D.Disk.tells old c.args.before c.args.to c.requires.may c.new.result.items step c.new.ensures.items from c.in_ok-step.ensures.ticks new new_is (λ i. (c.carry_out_spelled.ensures.retired i).items)
-    (ap (option_map flying_of) c.carry_out_spelled.ensures.flight) c.carry_out_spelled.ensures.pins (returns-clause-done g c) c.carry_out_spelled.ensures.levels c.tick.ensures.writable
+    c.carry_out_spelled.ensures.flights c.carry_out_spelled.ensures.pins (returns-clause-done g c) c.carry_out_spelled.ensures.levels c.tick.ensures.writable
 
 pub returns-clause-stands : goal.returns-clause-stands
 returns-clause-stands g c = λ told config h stands forward due caller.
@@ -215,7 +215,7 @@ returns-clause-stands g c = λ told config h stands forward due caller.
     let new_is : new.state ≡ moved step.manifest old.state = c.tick.ensures.is ∙ ap (moved step.manifest) c.in_ok-carry_out_spelled.ensures.state in
     let from = subst (λ headers. IsStepFrom (segments_for old.state.frozen) old.state headers step) (sym c.new.ensures.items) c.in_ok-step.ensures.step in
     ticked_stands g.D.Disk.tells old c.args.before c.args.to c.requires.may c.new.result.items step c.new.ensures.items from c.in_ok-step.ensures.ticks new new_is (λ i. (c.carry_out_spelled.ensures.retired i).items)
-    (ap (option_map flying_of) c.carry_out_spelled.ensures.flight) c.carry_out_spelled.ensures.pins (returns-clause-done g c) c.requires.passes c.requires.named
+    c.carry_out_spelled.ensures.flights c.carry_out_spelled.ensures.pins (returns-clause-done g c) c.requires.passes c.requires.named
     (returns-clause-pinned g c) told config h stands forward due caller
 
 pub returns-clause-any_moment : goal.returns-clause-any_moment

@@ -46,7 +46,7 @@ returns-in_err-flush_frozen-clause-partly g c =
     let refusal : c.from_residual.result ≡ Err why = search rules in
     subst (λ (r : Result (Unit {0}) Refused). IfErr r (IsDoneInPart g.D.Disk.tells (λ s t. (t ≡ s) ⊎ AreFlushedInPart s t) (view_of old) (view_of new))) (sym refusal)
     (λ none told s holds.
-    (s, inl refl, before_holds g.D.Disk.tells told (view_of old) (view_of new) s (jobs_same old new c.flush_frozen.ensures.begun c.flush_frozen.ensures.flight c.in_err-flush_frozen.ensures.keeps.pins) c.in_err-flush_frozen.ensures.keeps.pins (c.in_err-flush_frozen.ensures.undone none) holds))
+    (s, inl refl, before_holds g.D.Disk.tells told (view_of old) (view_of new) s (jobs_same old new c.flush_frozen.ensures.begun c.flush_frozen.ensures.flights c.in_err-flush_frozen.ensures.keeps.pins) c.in_err-flush_frozen.ensures.keeps.pins (c.in_err-flush_frozen.ensures.undone none) holds))
 
 pub returns-in_err-flush_frozen-clause-why : goal.returns-in_err-flush_frozen-clause-why
 returns-in_err-flush_frozen-clause-why g c =
@@ -80,7 +80,7 @@ returns-in_err-freeze_if_any-clause-partly g c =
     let refusal : c.from_residual-in_err-freeze_if_any.result ≡ Err why = search rules in
     subst (λ (r : Result (Unit {0}) Refused). IfErr r (IsDoneInPart g.D.Disk.tells (λ s t. (t ≡ s) ⊎ AreFlushedInPart s t) old (view_of new))) (sym refusal) (λ none told s holds.
     let middle = c.in_ok-flush_frozen.ensures.done told s holds in
-    let same = jobs_same mid new c.freeze_if_any.ensures.begun c.freeze_if_any.ensures.flight c.in_err-freeze_if_any.ensures.keeps.pins in
+    let same = jobs_same mid new c.freeze_if_any.ensures.begun c.freeze_if_any.ensures.flights c.in_err-freeze_if_any.ensures.keeps.pins in
     (middle.0, inr (middle.0, middle.1, inl refl), before_holds g.D.Disk.tells told (view_of mid) (view_of new) middle.0 same c.in_err-freeze_if_any.ensures.keeps.pins (c.in_err-freeze_if_any.ensures.undone none) middle.2))
 
 pub returns-in_err-freeze_if_any-clause-why : goal.returns-in_err-freeze_if_any-clause-why
@@ -111,7 +111,7 @@ returns-clause-partly g c =
     let old = view_of c.args.core.now in
     let frozen = c.freeze_if_any.new.core in
     let new = c.flush_frozen-2.new.core in
-    let same = jobs_same frozen new c.flush_frozen-2.ensures.begun c.flush_frozen-2.ensures.flight c.flush_frozen-2.ensures.keeps.pins in
+    let same = jobs_same frozen new c.flush_frozen-2.ensures.begun c.flush_frozen-2.ensures.flights c.flush_frozen-2.ensures.keeps.pins in
     IfErr-weaker c.flush_frozen-2.result (IsUndone g.D.Disk.tells (view_of frozen) (view_of new)) (IsDoneInPart g.D.Disk.tells (λ s t. (t ≡ s) ⊎ AreFlushedInPart s t) old (view_of new))
     (λ why undone none told s holds.
     let middle = c.in_ok-flush_frozen.ensures.done told s holds in

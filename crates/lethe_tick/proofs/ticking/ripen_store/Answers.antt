@@ -17,7 +17,7 @@ use Rattle.lethe_core.specs.View.{view_of}
 use Rattle.lethe_core.proofs.Behind.{next_may, reason_behind}
 use Rattle.lethe_core.proofs.Damaged.{not_damaged}
 use Rattle.lethe_core.proofs.Hindered.{keeps_then}
-use Rattle.lethe_core.proofs.Retired.{named_still}
+use Rattle.lethe_core.proofs.Timely.{named_still}
 use Rattle.lethe_tick.specs.Ripened.{IsRipened, IsShortToTick, IsTickedInPart}
 use Rattle.lethe_tick.proofs.Buffers.{if_ok, reason_then, reason_told}
 use Rattle.lethe_tick.proofs.Ripe.{named_left}
@@ -35,7 +35,7 @@ ripen-requires-clause-may g c κs within =
     let may = next_may g.D.Disk.tells (view_of c.args.core.now) free c.args.before c.requires c.in_ok-clear_now.ensures.keeps in
     next_may g.D.Disk.tells free (view_of c.ripen_buffers.new.core) c.args.before may c.in_ok-ripen_buffers.ensures.keeps
 
--- The job could not be given up, or pages that nothing needs not removed
+-- The jobs in flight could not be given up, or pages that nothing needs not removed
 
 pub returns-in_err-clear_now-clause-keeps : goal.returns-in_err-clear_now-clause-keeps
 returns-in_err-clear_now-clause-keeps g c =

@@ -165,7 +165,7 @@ returns-clause-partly g c =
     let old = view_of c.args.core.now in
     let mid = c.ripen_store.new.core in
     let new = c.move_clock.new.core in
-    let same = jobs_same mid new c.move_clock.ensures.begun c.move_clock.ensures.flight c.move_clock.ensures.pins in
+    let same = jobs_same mid new c.move_clock.ensures.begun c.move_clock.ensures.flights c.move_clock.ensures.pins in
     IfErr-weaker c.move_clock.result (IsUndone g.D.Disk.tells (view_of mid) (view_of new)) (IsDoneInPart g.D.Disk.tells (IsTickedInPart c.args.to) old (view_of new))
     (λ why undone none told s holds.
     let is = c.in_ok-ripen_store.ensures.done told s holds in

@@ -1,5 +1,5 @@
 use Rattle.std.proofs.Common.{rules, ◌≡◌, Some, Result, Err, sym, ap, ◌∙◌, subst, arith}
-use Rattle.std.specs.Prelude.{IfErr, option_map}
+use Rattle.std.specs.Prelude.{IfErr}
 use Rattle.std.specs.Result.{result_err}
 use Rattle.lethe_base.specs.declared.refused.Refused.{Refused}
 use Rattle.lethe_advance.specs.Calls.{most_calls}
@@ -7,7 +7,7 @@ use Rattle.lethe_state.specs.Room.{IsFrozen, IsFrozenWith, IsStepFrom}
 use Rattle.lethe_state.specs.declared.state.State.{State}
 use Rattle.lethe_core.specs.Keeps.{Keeps}
 use Rattle.lethe_core.specs.Steps.{IsUndone}
-use Rattle.lethe_core.specs.View.{flying_of, view_of}
+use Rattle.lethe_core.specs.View.{view_of}
 use Rattle.lethe_core.proofs.Carried.{IsCarried}
 use Rattle.lethe_core.proofs.Asked.{not_failed}
 use Rattle.lethe_core.proofs.Hindered.{as_itself, hindered_keeps, hindered_undone, keeps_itself}
@@ -76,7 +76,7 @@ returns-clause-keeps g c =
       files = c.in_ok-carry_out.ensures.files;
       levels = c.carry_out.ensures.levels;
       retired = λ i. (c.carry_out.ensures.retired i).items;
-      flight = ap (option_map flying_of) c.carry_out.ensures.flight;
+      flights = c.carry_out.ensures.flights;
       pins = c.carry_out.ensures.pins;
       calls = c.in_ok-carry_out.ensures.calls;
       faults = c.carry_out.ensures.faults;
@@ -105,7 +105,7 @@ returns-clause-done g c =
       files = c.in_ok-carry_out.ensures.files;
       levels = c.carry_out.ensures.levels;
       retired = λ i. (c.carry_out.ensures.retired i).items;
-      flight = ap (option_map flying_of) c.carry_out.ensures.flight;
+      flights = c.carry_out.ensures.flights;
       pins = c.carry_out.ensures.pins;
       calls = c.in_ok-carry_out.ensures.calls;
       faults = c.carry_out.ensures.faults;

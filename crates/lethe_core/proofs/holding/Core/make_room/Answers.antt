@@ -1,5 +1,5 @@
 use Rattle.std.proofs.Common.{rules, ◌≡◌, ◌⊎◌, ◌+◌, [], inl, inr, Some, None, Result, Err, refl, sym, ap, ◌∙◌, subst, arith}
-use Rattle.std.specs.Prelude.{IfErr, List, Option, option_map}
+use Rattle.std.specs.Prelude.{IfErr, List}
 use Rattle.std.specs.Result.{result_err}
 use Rattle.std.proofs.lemmas.Result.{IfErr-weaker}
 use Rattle.lethe_base.specs.declared.refused.Refused.{Refused}
@@ -11,7 +11,7 @@ use Rattle.lethe_core.specs.Merges.{AreRetiredBehind, IsMergedInPart, IsRoomBegu
 use Rattle.lethe_core.specs.Reasons.{HasReason, IsShort, IsShortOfRoom, IsUnreadable}
 use Rattle.lethe_core.specs.Running.{Holds}
 use Rattle.lethe_core.specs.Steps.{IsDoneInPart, IsReady, IsSteady}
-use Rattle.lethe_core.specs.View.{Flying, flying_of, view_of}
+use Rattle.lethe_core.specs.View.{Flying, view_of}
 use Rattle.lethe_core.proofs.Behind.{next_may, reason_behind}
 use Rattle.lethe_core.proofs.Damaged.{not_damaged}
 use Rattle.lethe_core.proofs.Hindered.{keeps_itself, keeps_then}
@@ -56,9 +56,9 @@ returns-in_err-unfreeze-clause-partly g c =
     let new = c.unfreeze.new.self in
     let why = c.in_err-unfreeze.field-0.0 in
     let refusal : c.from_residual.result ≡ Err why = search rules in
-    subst (λ (r : Result (Unit {0}) Refused). IfErr r (IsDoneInPart g.D.Disk.tells (IsRoomBegun (view_of old).flight) (view_of old) (view_of new))) (sym refusal)
+    subst (λ (r : Result (Unit {0}) Refused). IfErr r (IsDoneInPart g.D.Disk.tells (IsRoomBegun (view_of old).flights) (view_of old) (view_of new))) (sym refusal)
     (λ none told s holds.
-    (s, inl refl, before_holds g.D.Disk.tells told (view_of old) (view_of new) s (jobs_same old new c.unfreeze.ensures.begun c.unfreeze.ensures.flight c.unfreeze.ensures.keeps.pins) c.unfreeze.ensures.keeps.pins (c.in_err-unfreeze.ensures.undone none) holds))
+    (s, inl refl, before_holds g.D.Disk.tells told (view_of old) (view_of new) s (jobs_same old new c.unfreeze.ensures.begun c.unfreeze.ensures.flights c.unfreeze.ensures.keeps.pins) c.unfreeze.ensures.keeps.pins (c.in_err-unfreeze.ensures.undone none) holds))
 
 pub returns-in_err-unfreeze-clause-why : goal.returns-in_err-unfreeze-clause-why
 returns-in_err-unfreeze-clause-why g c =
@@ -90,12 +90,12 @@ returns-in_err-freeze_now-clause-partly g c =
     let new = c.freeze_now.new.self in
     let why = c.in_err-freeze_now.field-0.0 in
     let refusal : c.from_residual-in_err-freeze_now.result ≡ Err why = search rules in
-    subst (λ (r : Result (Unit {0}) Refused). IfErr r (IsDoneInPart g.D.Disk.tells (IsRoomBegun old.flight) old (view_of new))) (sym refusal) (λ none told s holds.
+    subst (λ (r : Result (Unit {0}) Refused). IfErr r (IsDoneInPart g.D.Disk.tells (IsRoomBegun old.flights) old (view_of new))) (sym refusal) (λ none told s holds.
     let full : HasRoom s → ⊥ = λ room. clash c.has_room.result (c.has_room.ensures.1 (sees_room old s holds room)) c.if-has_room.false in
     let middle = c.in_ok-unfreeze.ensures.done told s holds in (
       middle.0,
       inr (full, record { middle = middle.0; unfrozen = middle.1; rest = inl refl }),
-      before_holds g.D.Disk.tells told (view_of mid) (view_of new) middle.0 (jobs_same mid new c.freeze_now.ensures.begun c.freeze_now.ensures.flight c.freeze_now.ensures.keeps.pins) c.freeze_now.ensures.keeps.pins (c.in_err-freeze_now.ensures.undone none) middle.2,
+      before_holds g.D.Disk.tells told (view_of mid) (view_of new) middle.0 (jobs_same mid new c.freeze_now.ensures.begun c.freeze_now.ensures.flights c.freeze_now.ensures.keeps.pins) c.freeze_now.ensures.keeps.pins (c.in_err-freeze_now.ensures.undone none) middle.2,
     ))
 
 pub returns-in_err-freeze_now-clause-why : goal.returns-in_err-freeze_now-clause-why
@@ -126,14 +126,14 @@ returns-clause-partly g c =
     let old = view_of c.args.self.now in
     let cleared = view_of c.freeze_now.new.self in
     let new = view_of c.merge_due.new.self in
-    let flight = ap (option_map flying_of) (c.freeze_now.ensures.flight ∙ c.unfreeze.ensures.flight) in
-    IfErr-weaker c.merge_due.result (IsDoneInPart g.D.Disk.tells (IsMergedInPart cleared.flight) cleared new) (IsDoneInPart g.D.Disk.tells (IsRoomBegun old.flight) old new)
+    let flights = c.freeze_now.ensures.flights ∙ c.unfreeze.ensures.flights in
+    IfErr-weaker c.merge_due.result (IsDoneInPart g.D.Disk.tells (IsMergedInPart cleared.flights) cleared new) (IsDoneInPart g.D.Disk.tells (IsRoomBegun old.flights) old new)
     (λ why done none told s holds.
     let full : HasRoom s → ⊥ = λ room. clash c.has_room.result (c.has_room.ensures.1 (sees_room old s holds room)) c.if-has_room.false in
     let middle = c.in_ok-unfreeze.ensures.done told s holds in
     let froze = c.in_ok-freeze_now.ensures.done told middle.0 middle.2 in
     let some = done none told froze.0 froze.2 in
-    let merged = subst (λ flight. IsMergedInPart flight froze.0 some.0) flight some.1 in
+    let merged = subst (λ flights. IsMergedInPart flights froze.0 some.0) flights some.1 in
     (some.0, inr (full, record { middle = middle.0; unfrozen = middle.1; rest = inr (froze.0, froze.1, froze.2.remembers.coherent, merged) }), some.2)) c.merge_due.ensures.partly
 
 pub returns-clause-done : goal.returns-clause-done
@@ -145,15 +145,15 @@ returns-clause-done g c = λ told s holds.
     let cleared = c.in_ok-freeze_now.ensures.done told middle.0 middle.2 in
     let start = g.D.Disk.fetches c.args.port.now in
     let now = g.D.Disk.fetches c.merge_due.new.port in
-    let flight = ap (option_map flying_of) (c.freeze_now.ensures.flight ∙ c.unfreeze.ensures.flight) in
+    let flights = c.freeze_now.ensures.flights ∙ c.unfreeze.ensures.flights in
     let retired : (view_of c.freeze_now.new.self).retired ≡ old.retired = (λ i. (c.freeze_now.ensures.retired i).items) ∙ λ i. (c.unfreeze.ensures.retired i).items in
-    let P : Option Flying → Type 0 = λ flight. (t : Stored) × (outcomes : List Outcome) × IsUncrowded flight cleared.0 outcomes t × Holds new t × (now ≡ start + pages_of outcomes)
+    let P : List Flying → Type 0 = λ flights. (t : Stored) × (outcomes : List Outcome) × IsUncrowded flights cleared.0 outcomes t × Holds new t × (now ≡ start + pages_of outcomes)
     × AreRetiredBehind outcomes (view_of c.freeze_now.new.self).pins.pins (view_of c.freeze_now.new.self).retired new.retired in
-    on_ok c.merge_due.result (P (view_of c.freeze_now.new.self).flight)
-    ((t : Stored) × (outcomes : List Outcome) × IsRoomMadeBy old.flight s outcomes t × Holds new t × (now ≡ start + pages_of outcomes) × AreRetiredBehind outcomes old.pins.pins old.retired new.retired)
+    on_ok c.merge_due.result (P (view_of c.freeze_now.new.self).flights)
+    ((t : Stored) × (outcomes : List Outcome) × IsRoomMadeBy old.flights s outcomes t × Holds new t × (now ≡ start + pages_of outcomes) × AreRetiredBehind outcomes old.pins.pins old.retired new.retired)
     (c.merge_due.ensures.done told cleared.0 cleared.2)
     (λ done.
-    let merges = subst (λ flight. IsUncrowded flight cleared.0 done.1 done.0) flight done.2 in
+    let merges = subst (λ flights. IsUncrowded flights cleared.0 done.1 done.0) flights done.2 in
     (done.0, done.1, inr (full, record { middle = middle.0; unfrozen = middle.1; cleared = cleared.0; frozen = cleared.1; coherent = cleared.2.remembers.coherent; merges = merges }), done.3, done.4, retired_since done.1 (view_of c.freeze_now.new.self).pins old.pins (view_of c.freeze_now.new.self).retired old.retired new.retired (c.in_ok-freeze_now.ensures.keeps.pins ∙ c.in_ok-unfreeze.ensures.keeps.pins) retired done.5))
 
 pub returns-clause-why : goal.returns-clause-why

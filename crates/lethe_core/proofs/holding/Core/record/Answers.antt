@@ -88,8 +88,9 @@ returns-in-Ok-append-clause-sound g c =
       writable = c.enter.ensures.writable;
       small = next_small c.args.next c.in-Ok.field-0.end c.prepare.new.self c.enter.new.self c.enter.ensures.is room (like_small c.args.self.now.state c.prepare.new.self like sound.small);
       count = sound.count ∙ ap (λ (m : Manifest). m.config.levels + 1) (sym manifest);
-      flies = flies_on old.state c.enter.new.self (ap (λ (m : Manifest). m.config.levels) manifest) old.flight sound.flies;
-      loose = drawn_on old.state.next c.enter.new.self.next (names_in (loose_in old.flight)) (omega (arith, drawn)) sound.loose;
+      flights = sound.flights;
+      flies = flies_on old.state c.enter.new.self (ap (λ (m : Manifest). m.config.levels) manifest) old.flights sound.flies;
+      loose = drawn_on old.state.next c.enter.new.self.next (names_in (loose_in old.flights)) (omega (arith, drawn)) sound.loose;
       drawn = λ told. drawn_on old.state.next c.enter.new.self.next (names_beside old) (omega (arith, drawn)) (sound.drawn told);
       pins = sound.pins;
       pages = sound.pages;
@@ -210,14 +211,14 @@ returns-clause-sound g c =
     let mid = with_state (view_of c.args.self.now) c.prepare.new.self in
     let disk = g.D.Disk.seen c.append.new.disk in
     sound_back g.D.Disk.tells mid (moved mid disk (g.D.Disk.faults c.append.new.disk) c.prepare.new.self) (λ told. refused_at_once mid.disk disk (c.in-Err-NoMemory.ensures.no_memory told (ap Err c.in-Err-NoMemory.field-0-is))) refl
-    (record { levels = refl; retired = refl; flight = refl; begun = refl; rounds = refl; pins = refl }) (like_sound (view_of c.args.self.now) c.prepare.new.self c.prepare.ensures.same g.D.Disk.tells c.prepare.ensures.writable c.requires.may.sound)
+    (record { levels = refl; retired = refl; flights = refl; begun = refl; rounds = refl; pins = refl }) (like_sound (view_of c.args.self.now) c.prepare.new.self c.prepare.ensures.same g.D.Disk.tells c.prepare.ensures.writable c.requires.may.sound)
 
 pub returns-clause-stands : goal.returns-clause-stands
 returns-clause-stands g c = λ told config h caller call change stands with.
     let mid = with_state (view_of c.args.self.now) c.prepare.new.self in
     let disk = g.D.Disk.seen c.append.new.disk in
     stands_back mid (moved mid disk (g.D.Disk.faults c.append.new.disk) c.prepare.new.self) (refused_at_once mid.disk disk (c.in-Err-NoMemory.ensures.no_memory told (ap Err c.in-Err-NoMemory.field-0-is))) config h refl
-    (record { levels = refl; retired = refl; flight = refl; begun = refl; rounds = refl; pins = refl }) (like_stands (view_of c.args.self.now) c.prepare.new.self c.prepare.ensures.same config h stands c.requires.may.runs)
+    (record { levels = refl; retired = refl; flights = refl; begun = refl; rounds = refl; pins = refl }) (like_stands (view_of c.args.self.now) c.prepare.new.self c.prepare.ensures.same config h stands c.requires.may.runs)
 
 pub returns-clause-any_moment : goal.returns-clause-any_moment
 returns-clause-any_moment g c = λ told config h caller call stands with.

@@ -15,8 +15,8 @@ use Rattle.lethe_engine.proofs.engine.Engine.begin.Goals as goal
 pub returns-in-Some-clause-answers : goal.returns-in-Some-clause-answers
 returns-in-Some-clause-answers g c = itself_answers g.D.Disk.tells (Serves Work) (Some (Stopped c.in-Some.at)) (view_of c.args.self.now.core) c.requires (refused_is_none (Serves Work) (Stopped c.in-Some.at) refl)
 
-pub returns-then-is_some-clause-answers : goal.returns-then-is_some-clause-answers
-returns-then-is_some-clause-answers g c = itself_answers g.D.Disk.tells (Serves Work) (Some NothingDue) (view_of c.args.self.now.core) c.requires (refused_is_none (Serves Work) NothingDue refl)
+pub returns-then-not-is_empty-clause-answers : goal.returns-then-not-is_empty-clause-answers
+returns-then-not-is_empty-clause-answers g c = itself_answers g.D.Disk.tells (Serves Work) (Some NothingDue) (view_of c.args.self.now.core) c.requires (refused_is_none (Serves Work) NothingDue refl)
 
 pub returns-in-Ok-Some-clause-answers : goal.returns-in-Ok-Some-clause-answers
 returns-in-Ok-Some-clause-answers g c =

@@ -15,5 +15,5 @@ returns-clause-answers g c =
     let old = view_of c.args.self.now.core in
     let new : View = view_of c.record_row.new.core in
     let is = c.record_row.ensures in
-    let face = jobs_same c.args.self.now.core c.record_row.new.core is.begun is.flight is.pins in
+    let face = jobs_same c.args.self.now.core c.record_row.new.core is.begun is.flights is.pins in
     row_answers g.D.Disk.tells c.args.asked.now.items c.record_row.new.asked.items c.record_row.result.done c.record_row.result.refused old new (none_there old.state.stopped (ap is_some (sym c.stopped.ensures) ∙ sym c.is_some.ensures ∙ c.if-is_some.false)) face (ap (λ names. names.items) is.retired) is.row

@@ -47,7 +47,7 @@ returns-in_err-make_room-clause-answers g c =
     let cause : HasReason (IsShortOfRoom g.D.Disk.tells old.state new) old.state old.faults new.faults why ⊎ IsUnreadable g.D.Disk.tells g.D.Disk.ports_fail first last why = search rules in
     let reason = reason_of_room g.D.Disk.tells g.D.Disk.ports_fail old new first last why full c.in_ok-may_change.ensures.fits.0 cause in
     subst (λ (r : Result ℕ Refused). Answers g.D.Disk.tells (Makes Asks) (result_err r) (face_of old) old new) (sym refusal)
-    (subst (λ face. Answers g.D.Disk.tells (Makes Asks) (Some why) face old new) (jobs_same core c.make_room.new.self c.make_room.ensures.begun c.make_room.ensures.flight c.in_err-make_room.ensures.keeps.pins)
+    (subst (λ face. Answers g.D.Disk.tells (Makes Asks) (Some why) face old new) (jobs_same core c.make_room.new.self c.make_room.ensures.begun c.make_room.ensures.flights c.in_err-make_room.ensures.keeps.pins)
     (unroomed_answers g.D.Disk.tells Asks (erase_works c.args.range) old c.in_ok-may_change.ensures.fits.0 g.D.Disk.ports_fail first last new why c.in_err-make_room.ensures.keeps reason
     full c.in_err-make_room.ensures.partly))
 
@@ -76,10 +76,10 @@ returns-clause-answers g c =
     let fits = c.in_ok-may_change.ensures.fits in
     let reason = if_refused c.record.result (HasReason ⊥ mid.state old.faults new.faults) (subst (λ n. IfErr c.record.result (HasReason ⊥ mid.state n new.faults)) c.faults-before.ensures c.record.ensures.why) in
     subst (λ face. Answers g.D.Disk.tells (Makes Asks) why face old new)
-    (jobs_same core c.make_room.new.self c.make_room.ensures.begun c.make_room.ensures.flight c.in_ok-make_room.ensures.keeps.pins)
+    (jobs_same core c.make_room.new.self c.make_room.ensures.begun c.make_room.ensures.flights c.in_ok-make_room.ensures.keeps.pins)
     (recorded_answers g.D.Disk.tells Asks (erase_works c.args.range) old fits.0 mid new why c.in_ok-make_room.ensures.keeps
     (λ told s holds. let done = c.in_ok-make_room.ensures.done told s holds in (done.0, done.1, done.2, done.3)) (λ s t is. is) (λ room. ap view_of (c.in_ok-make_room.ensures.room room).1)
-    (jobs_same c.make_room.new.self c.record.new.self c.record.ensures.begun c.record.ensures.flight c.record.ensures.pins) c.record.ensures.sound (c.record.ensures.count Asks) c.record.ensures.stopped reason
+    (jobs_same c.make_room.new.self c.record.new.self c.record.ensures.begun c.record.ensures.flights c.record.ensures.pins) c.record.ensures.sound (c.record.ensures.count Asks) c.record.ensures.stopped reason
     (if_refused c.record.result (IsUndone g.D.Disk.tells mid new) c.record.ensures.undone) c.record.ensures.numbers c.record.ensures.drawn c.record.ensures.faults
     (ap (λ names. names.items) c.record.ensures.retired) c.record.ensures.pins c.record.ensures.pinned
     (λ told config h caller still. c.record.ensures.stands told config h caller Asks refl still

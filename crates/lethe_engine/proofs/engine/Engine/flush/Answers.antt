@@ -32,7 +32,7 @@ returns-in-Ok-clause-answers g c =
     let core = c.args.self.now.core in
     let old = view_of core in
     let new = view_of c.flush_now.new.self in
-    subst (λ face. Answers g.D.Disk.tells (Serves Work) None face old new) (jobs_same core c.flush_now.new.self c.flush_now.ensures.begun c.flush_now.ensures.flight c.in-Ok.ensures.keeps.pins)
+    subst (λ face. Answers g.D.Disk.tells (Serves Work) None face old new) (jobs_same core c.flush_now.new.self c.flush_now.ensures.begun c.flush_now.ensures.flights c.in-Ok.ensures.keeps.pins)
     (step_answers g.D.Disk.tells (IsShortToFlush old.state) None old new c.faults-before.result c.in_ok-may_change.ensures.fits.0 c.faults-before.ensures c.in-Ok.ensures.keeps tt tt)
 
 pub returns-in-Err-clause-answers : goal.returns-in-Err-clause-answers
@@ -40,7 +40,7 @@ returns-in-Err-clause-answers g c =
     let core = c.args.self.now.core in
     let old = view_of core in
     let new = view_of c.flush_now.new.self in
-    subst (λ face. Answers g.D.Disk.tells (Serves Work) (Some c.in-Err.why) face old new) (jobs_same core c.flush_now.new.self c.flush_now.ensures.begun c.flush_now.ensures.flight c.in-Err.ensures.keeps.pins)
+    subst (λ face. Answers g.D.Disk.tells (Serves Work) (Some c.in-Err.why) face old new) (jobs_same core c.flush_now.new.self c.flush_now.ensures.begun c.flush_now.ensures.flights c.in-Err.ensures.keeps.pins)
     (step_answers g.D.Disk.tells (IsShortToFlush old.state) (Some c.in-Err.why) old new c.faults-before.result c.in_ok-may_change.ensures.fits.0 c.faults-before.ensures c.in-Err.ensures.keeps c.in-Err.ensures.why c.in-Err.ensures.undone)
 
 pub returns-in-Ok-clause-done : goal.returns-in-Ok-clause-done

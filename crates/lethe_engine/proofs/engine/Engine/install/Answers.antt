@@ -11,6 +11,6 @@ returns-in-Err-clause-back g c =
     let same = c.install_whole.ensures.job in
     let face = c.in-Err.ensures.answers.face_is in (
       λ flies. flies_still old new c.args.job c.refuse.new.self (ap (λ job. job.number) refused ∙ ap (λ job. job.number) same) (ap (λ job. job.task.value) refused ∙ ap (λ job. job.task.value) same)
-          (ap (λ job. job.round) refused ∙ ap (λ job. job.round) same) flies (ap (λ (face : Face). face.flight) face) (ap (λ (face : Face). face.rounds) face),
+          (ap (λ job. job.round) refused ∙ ap (λ job. job.round) same) flies (ap (λ (face : Face). face.flights) face) (ap (λ (face : Face). face.rounds) face),
       ap (λ job. job.refused) refused,
     )

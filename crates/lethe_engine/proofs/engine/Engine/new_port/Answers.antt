@@ -20,7 +20,7 @@ pub returns-clause-answers : goal.returns-clause-answers
 returns-clause-answers g c =
     let old : View = view_of c.args.self.now.core in
     let new : View = record old { disk = g.D.Disk.seen c.port.new.self; faults = g.D.Disk.faults c.port.new.self } in
-    let rest : IsBeside old new = record { levels = refl; retired = refl; flight = refl; begun = refl; rounds = refl; pins = refl } in
+    let rest : IsBeside old new = record { levels = refl; retired = refl; flights = refl; begun = refl; rounds = refl; pins = refl } in
     idle_answers g.D.Disk.tells (option_map (λ none. NoMemory) (result_err c.port.result)) old new (sound_back g.D.Disk.tells old new (λ told. idle_back old.disk new.disk (c.port.ensures.idle told)) refl rest c.requires)
     refl refl refl c.port.ensures.faults c.port.ensures.idle
     (λ told config h stands. stands_back old new (idle_back old.disk new.disk (c.port.ensures.idle told)) config h refl rest stands) (no_change c.port.result)

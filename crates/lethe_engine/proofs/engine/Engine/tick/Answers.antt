@@ -1,10 +1,10 @@
 use Rattle.std.proofs.Common.{rules, ◌≡◌, ◌+◌, Some, None, Result, Err, refl, sym, ap, ◌∙◌, subst}
-use Rattle.std.specs.Prelude.{IfErr, option_map}
+use Rattle.std.specs.Prelude.{IfErr}
 use Rattle.std.specs.Result.{result_err}
 use Rattle.lethe_base.specs.declared.call.Call.TheVariants as call
 use Rattle.lethe_base.specs.declared.refused.Refused.{Refused}
 use Rattle.lethe_core.specs.Asked.{Makes}
-use Rattle.lethe_core.specs.View.{View, flying_of, view_of}
+use Rattle.lethe_core.specs.View.{View, view_of}
 use Rattle.lethe_tick.specs.Ripened.{IsTickedInPart}
 use Rattle.lethe_engine.specs.Answers.{Answers}
 use Rattle.lethe_engine.specs.Ticks.{HasReasonOfTick, ticked_face}
@@ -76,7 +76,7 @@ returns-in_err-certificate-clause-answers g c =
     let last = g.D.Disk.port_faults c.tick.new.port in
     let is = c.in_err-certificate.ensures in
     let all = c.tick.ensures in
-    let face = ticked_now old to new (passes_all old to may.0 may.1) (λ i. (all.begun i).jobs.count) (λ i. (all.begun i).rounds) (λ i. option_map flying_of (all.free i)) all.pins in
+    let face = ticked_now old to new (passes_all old to may.0 may.1) (λ i. (all.begun i).jobs) (λ i. (all.begun i).rounds) all.free all.pins in
     let told = tick_told tells g.D.Disk.ports_fail to old new c.faults-before.result first last may.0.runs c.faults-before.ensures why is.why in
     subst (λ (r : Result Ticked Refused). Answers tells (Makes (call.Tick to)) (result_err r) (ticked_face old to) old new) (sym refusal)
     (subst (λ face. Answers tells (Makes (call.Tick to)) (Some why) face old new) face
@@ -110,7 +110,7 @@ returns-clause-answers g c =
     let may = c.in_ok-may_tick.ensures.may in
     let is = c.in_ok-certificate.ensures in
     let all = c.tick.ensures in
-    let face = ticked_now old to new (passes_all old to may.0 may.1) (λ i. (all.begun i).jobs.count) (λ i. (all.begun i).rounds) (λ i. option_map flying_of (all.free i)) all.pins in
+    let face = ticked_now old to new (passes_all old to may.0 may.1) (λ i. (all.begun i).jobs) (λ i. (all.begun i).rounds) all.free all.pins in
     subst (λ face. Answers tells (Makes (call.Tick to)) None face old new) face
     (made_answers tells (call.Tick to) (tick_works to) old may.0.runs new None all.sound is.count is.stopped
     (λ told config h caller before. is.stands told config h (stands_in_round old (old.rounds + 1) config h before) caller)
