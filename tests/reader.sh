@@ -1,7 +1,8 @@
 #!/bin/sh
 # A second reader of the folder, tests/reader.py, which was written from docs/FORMATS.md alone: tests/reader.sh [COUNT [SEED]]. Over generated stores, run after run, it gives the
 # pairs, the clock and the counts that the program gives. Of each store some objects are then changed, cut, lengthened, exchanged, renamed or taken away: both refuse the folder with
-# the same line, or give the same pairs. While one of the two has the folder the other is refused: they share the lock.
+# the same line, or give the same pairs. While one of the two has the folder the other is refused: they share the lock. Tried with wrong readers: one for which the older entry wins, that applies no erase or applies one to later puts, that knows the
+# erases of the manifest or of the segments alone, reads a closed record, or tests no digest, filter or delete keys, differs within 30 stores. Two don't within 50: one that doesn't test that each key lies between its tile's two, and one that takes a key twice in a tile.
 # shellcheck source=tests/common.sh
 . "$(dirname -- "$0")/common.sh"
 needs python3 flock
