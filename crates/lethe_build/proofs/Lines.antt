@@ -13,7 +13,7 @@ use Rattle.lethe_page.specs.Pages as pages
 use Rattle.lethe_page.specs.declared.class.Class.{Class}
 use Rattle.lethe_header.specs.Headers.{IsFence}
 use Rattle.lethe_header.specs.declared.header.PageLine.{PageLine}
-use Rattle.lethe_file.specs.Agreement.{Agrees, IsFilterOf, entries_in, fence_of, keys_of}
+use Rattle.lethe_file.specs.Agreement.{IsFilterOf, entries_in, fence_of, keys_of}
 use Rattle.lethe_file.specs.Agreement as agreement
 use Rattle.lethe_file.proofs.Pages.{same_entries}
 use Rattle.lethe_build.specs.Built.{class_of, spelled}

@@ -17,7 +17,7 @@ use Rattle.lethe_header.specs.Facts.{lines_of}
 use Rattle.lethe_header.specs.Headers.{EachFollows, HasRoomFor, HasSpelling, IsFrom, LineFollows, TileFollows, dkey_then, entries_in, is_puts, puts_in}
 use Rattle.lethe_header.specs.declared.header.PageLine.{PageLine}
 use Rattle.lethe_header.specs.declared.header.TileLine.{TileLine}
-use Rattle.lethe_file.specs.Agreement.{Agrees, FileAgrees, TileHolds, TilesHold}
+use Rattle.lethe_file.specs.Agreement.{Agrees, TileHolds, TilesHold}
 use Rattle.lethe_file.specs.Agreement as agreement
 use Rattle.lethe_build.specs.Built.{IsToldBy}
 use Rattle.lethe_build.specs.Drafts.{IsDraft, IsDraftOf, IsNumberedOf, header_of, with_number, with_numbers}

@@ -3,7 +3,7 @@ use Rattle.std.proofs.Common.{◌≡◌, ◌≤◌, ◌⊎◌, inl, inr, ℕ, �
 use Rattle.std.specs.Prelude.{IsSome}
 use Rattle.lethe_base.specs.declared.call.Call.{Call}
 use Rattle.lethe_base.specs.declared.refused.Refused.{Refused}
-use Rattle.lethe_core.specs.Asked.{Makes, behind}
+use Rattle.lethe_core.specs.Asked.{Makes}
 use Rattle.lethe_core.specs.Running.{Holds}
 use Rattle.lethe_core.specs.View.{Face, View}
 use Rattle.lethe_pins.specs.Held.{Held}

@@ -1,5 +1,5 @@
 -- The pages of a merge's outputs have no puts but those of its inputs, and so only those of what is stored where that has the inputs.
-use Rattle.std.proofs.Common.{◌≡◌, ℕ, ◌+◌, Bool, true, false, cond, List, [], ◌∷◌, Contains, All, IsPermutation, None, refl, sym, subst, arith}
+use Rattle.std.proofs.Common.{◌≡◌, ℕ, Bool, true, false, cond, List, [], ◌∷◌, Contains, All, IsPermutation, None, refl, sym, subst}
 use Rattle.std.specs.Prelude.{flat_map, map}
 use Rattle.std.specs.List.{AllZip, list_any}
 use Rattle.std.proofs.Math.Logic.{⊎_elim}

@@ -1,6 +1,6 @@
 -- A page of a job in flight is written beside what is stored.
 use Rattle.std.proofs.Common.{◌≡◌, ◌<◌, ◌≤◌, ◌+◌, inl, inr, ℕ, Bool, true, false, cond, List, [], ◌∷◌, ◌++◌, length, map, Option, Some, None, Result, Err, refl, sym, ap, ◌∙◌, subst, arith}
-use Rattle.std.specs.Prelude.{◌==◌, ◌↔◌, All, Contains, IfSome, IsNone, IsPermutation, IsSome, IsTrue, OnErr, count_by, if◌then◌else◌, is_some, not}
+use Rattle.std.specs.Prelude.{◌==◌, ◌↔◌, All, Contains, IfSome, IsNone, IsPermutation, IsSome, IsTrue, count_by, if◌then◌else◌, is_some, not}
 use Rattle.std.specs.Option.{option_map_or}
 use Rattle.std.proofs.lemmas.Bool.{eqb-true}
 use Rattle.std.proofs.lemmas.List.Elements.{All-contains, All-push, Contains-append_left}
@@ -24,7 +24,7 @@ use Rattle.lethe_stored.specs.Encodes.{Encodes}
 use Rattle.lethe_stored.specs.Files.{Parts, file_of}
 use Rattle.lethe_stored.specs.Kept.{IsKept}
 use Rattle.lethe_stored.specs.Numbers.{GoesFrom}
-use Rattle.lethe_stored.specs.Stored.{IsCited, IsCoherent, Stored, segment_name}
+use Rattle.lethe_stored.specs.Stored.{IsCited, Stored, segment_name}
 use Rattle.lethe_stored.proofs.Lists.{all_from, from_map}
 use Rattle.lethe_stored.proofs.Parts.{part_below}
 use Rattle.lethe_advance.specs.Settled.{AreDrawn, AreUncited, HasOnly, IsSettled, names_in}
@@ -50,9 +50,6 @@ use Rattle.lethe_core.proofs.Hindered.{flies_on, hindered_keeps}
 use Rattle.lethe_core.proofs.Paged.{page_cited}
 use Rattle.lethe_core.proofs.Standing.{encoded_moments, next_stands_now, stands_for, stands_holds}
 use Rattle.lethe_core.proofs.Timely.{retired_same, timely_kept}
-
-pub on_err : {T E : Type 0} (result : Result T E) (why : E) (P : Type 0) → result ≡ Err why → OnErr result P → P
-on_err result why P is on = subst (λ r. OnErr r P) is on
 
 -- where the active segment's object is as it was, the segment ends where it did
 pub ends_stay : (old new : Seen) (s : Stored) (at : ℕ) → IsSettled new s → object new.directory (segment_name s.active.no) ≡ object old.directory (segment_name s.active.no) → Image old old.directory

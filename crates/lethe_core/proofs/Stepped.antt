@@ -1,12 +1,11 @@
 -- A freeze and a flush that were carried out: what is stored next is held.
-use Rattle.std.proofs.Common.{◌≡◌, ◌+◌, inl, inr, ℕ, false, List, ◌++◌, length, All, AllPairs, Option, Some, None, refl, sym, ap, ◌∙◌, subst, arith}
+use Rattle.std.proofs.Common.{◌≡◌, ◌+◌, inl, inr, false, List, ◌++◌, length, All, AllPairs, Option, Some, None, refl, sym, ap, ◌∙◌, subst, arith}
 use Rattle.std.specs.Prelude.{◌==◌, Contains, IsSome, IsTrue, filter}
 use Rattle.std.specs.declared.cmp.Ordering.TheVariants.{Less}
 use Rattle.std.proofs.lemmas.Bool.{ne_eqb}
 use Rattle.std.proofs.lemmas.List.Elements.{All-weaker, Contains-append_right, filter-append}
 use Rattle.lethe_base.specs.Keys.{key_cmp}
 use Rattle.lethe_base.specs.declared.config.Fields.{Fields}
-use Rattle.lethe_base.specs.declared.name.Name.{Name}
 use Rattle.lethe_disk.specs.Disk.{Image}
 use Rattle.lethe_file.proofs.Joined.{filter_none}
 use Rattle.lethe_header.specs.Facts.{least_key, greatest_key}

@@ -1,6 +1,5 @@
 -- A job and the store that has it in flight.
-use Rattle.std.specs.Prelude.{◌≡◌, ◌≤◌, ℕ, ◌+◌, List, ◌++◌, ◌∷◌, [], length, IfSome, IsSome, Some, false}
-use Rattle.lethe_base.specs.declared.name.Name.{Name}
+use Rattle.std.specs.Prelude.{◌≡◌, ◌≤◌, ◌+◌, ◌++◌, ◌∷◌, [], length, IfSome, IsSome, Some, false}
 use Rattle.lethe_disk.specs.declared.disk.Disk.{Ghosts}
 use Rattle.lethe_advance.specs.Settled.{names_in}
 use Rattle.lethe_job.specs.Jobs.{IsJob}

@@ -1,5 +1,5 @@
 -- A job at work, where one page more is written, where it is installed and where it is given up.
-use Rattle.std.proofs.Common.{◌≡◌, ◌≤◌, ◌<◌, ℕ, ◌+◌, ◌-◌, List, [], ◌∷◌, ◌++◌, length, get_or, take, Option, Some, None, Result, Ok, Err, refl, sym, ap, ◌∙◌, subst, append-nil, length-append, drop-cons, arith}
+use Rattle.std.proofs.Common.{◌≡◌, ◌≤◌, ◌<◌, ℕ, ◌+◌, ◌-◌, List, [], ◌∷◌, ◌++◌, length, get_or, take, Option, Some, None, Result, Ok, Err, refl, sym, ap, ◌∙◌, subst, length-append, drop-cons, arith}
 use Rattle.std.specs.Prelude.{IfSome, IsSome, OnOk, option_map}
 use Rattle.std.specs.Option.{option_map_or}
 use Rattle.std.specs.List.{zip}

@@ -27,7 +27,7 @@ use Rattle.lethe_run.specs.declared.status.Status.TheVariants.{Answered, BadWord
 use Rattle.lethe_run.specs.Anywhere.{AreToldThrough, IsPlausible, standing_of}
 use Rattle.lethe_run.specs.Carried.{IsCarriedOut}
 use Rattle.lethe_run.specs.Ends as ends
-use Rattle.lethe_run.specs.Ends.{Run, Asks, IsCommand, IsNoCommand, IsUnused, OnLeft, OnScript, Carries, IsBegun, IsSoundFor, course_of, IsNoScript, IsNotOpened}
+use Rattle.lethe_run.specs.Ends.{Run, Asks, IsCommand, IsNoCommand, IsUnused, OnScript, Carries, IsBegun, IsSoundFor, course_of, IsNoScript, IsNotOpened}
 use Rattle.lethe_run.specs.Printed.{bad_words, bad_line, open_line}
 use Rattle.lethe_run.specs.Scripts.{All, IsToldFrom, ScriptEnds, Serves}
 use Rattle.lethe_run.specs.Serving.{IsOn, IsCarried, Point}

@@ -11,7 +11,7 @@ use Rattle.lethe_script.specs.Grammar.{script_of}
 use Rattle.lethe_run.specs.declared.status.Status.{Status}
 use Rattle.lethe_run.specs.declared.status.Status.TheVariants as status
 use Rattle.lethe_run.specs.Ends as ends
-use Rattle.lethe_run.specs.Ends.{Run, Ends, Asks, IsCommand, IsUnused, IsUnbegun, IsAsked, OnLeft, OnScript, IsNotOpened, IsOpenExhausted, IsOpenFault, StoppedInside, course_of, script_ends}
+use Rattle.lethe_run.specs.Ends.{Run, Ends, Asks, IsNotOpened, IsOpenExhausted, IsOpenFault}
 use Rattle.lethe_run.specs.Status.{EndsWith, code_of}
 use Rattle.lethe_base.specs.declared.name.Name.{Name}
 use Rattle.lethe_run.proofs.Ending.{some_then, some_now}

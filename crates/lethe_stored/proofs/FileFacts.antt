@@ -8,7 +8,7 @@ use Rattle.std.proofs.lemmas.List.Folds.{flat_map-map}
 use Rattle.std.proofs.lemmas.List.Sums.{fold-append, sum_by-append, sum_by-cons}
 use Rattle.lethe_base.specs.Keys.{Bytes}
 use Rattle.lethe_base.specs.Layout.{Tile}
-use Rattle.lethe_base.specs.Shapes.{earlier, oldest_of, is_tomb, lower_key, upper_key}
+use Rattle.lethe_base.specs.Shapes.{earlier, oldest_of, is_tomb, lower_key}
 use Rattle.lethe_base.specs.Shapes as shapes
 use Rattle.lethe_base.specs.declared.entry.Body.{Body}
 use Rattle.lethe_base.specs.declared.entry.Body.TheVariants.{Put, Tomb}
@@ -19,7 +19,7 @@ use Rattle.lethe_page.specs.Pages.{IsIn}
 use Rattle.lethe_page.specs.Pages as pages
 use Rattle.lethe_page.specs.declared.class.Class.{Class}
 use Rattle.lethe_page.specs.declared.class.Class.TheVariants.{Puts, Tombs}
-use Rattle.lethe_header.specs.Facts.{lines_of, oldest_in, tombs_in, max_seq_in, least_key, greatest_key}
+use Rattle.lethe_header.specs.Facts.{lines_of, tombs_in, least_key}
 use Rattle.lethe_header.specs.Facts as facts
 use Rattle.lethe_header.specs.Headers.{is_puts}
 use Rattle.lethe_header.specs.Headers as headers

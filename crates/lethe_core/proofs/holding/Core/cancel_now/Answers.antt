@@ -8,13 +8,12 @@ use Rattle.lethe_stored.specs.Stored.{Stored}
 use Rattle.lethe_core.specs.Flights.{flying_by, without}
 use Rattle.lethe_core.specs.Keeps.{Keeps}
 use Rattle.lethe_core.specs.Running.{Holds}
-use Rattle.lethe_core.specs.View.{Flying, view_of}
+use Rattle.lethe_core.specs.View.{view_of}
 use Rattle.lethe_core.proofs.Asked.{not_none}
 use Rattle.lethe_core.proofs.Flying.{without_none}
 use Rattle.lethe_core.proofs.Hindered.{keeps_itself}
 use Rattle.lethe_core.proofs.Pages.{held_now, may_remove, refused_keeps, stays, taken_found}
 use Rattle.lethe_core.proofs.Removed.{grounded_keeps, named_kept, only_failed, others_left_of, removed_holds, removed_keeps}
-use Rattle.lethe_core.proofs.holding.Core.cancel_now.Given.{Over}
 use Rattle.lethe_core.proofs.holding.Core.cancel_now.Goals as goal
 
 -- beside what is stored the retired pages and those of the jobs lie there

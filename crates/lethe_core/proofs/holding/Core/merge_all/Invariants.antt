@@ -1,4 +1,4 @@
-use Rattle.std.proofs.Common.{◌≡◌, ◌≤◌, ◌-◌, [], None}
+use Rattle.std.proofs.Common.{◌≡◌, ◌≤◌, ◌-◌, []}
 use Rattle.lethe_core.specs.Merges.{chosen_by}
 use Rattle.lethe_core.specs.View.{view_of}
 use Rattle.lethe_core.proofs.Outcomes.{HasMerged}

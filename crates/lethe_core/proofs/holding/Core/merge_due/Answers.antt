@@ -1,4 +1,4 @@
-use Rattle.std.proofs.Common.{rules, ◌≡◌, [], None, refl, ap, arith}
+use Rattle.std.proofs.Common.{rules, ◌≡◌, [], None, refl, arith}
 use Rattle.std.specs.Prelude.{IsTrue, List, ◌+◌, false}
 use Rattle.std.proofs.lemmas.Result.{IfErr-weaker}
 use Rattle.lethe_disk.proofs.Quieting.{on_ok}

@@ -1,4 +1,4 @@
-use Rattle.std.proofs.Common.{rules, ◌≡◌, ◌≤◌, ◌+◌, ◌++◌, [], None, Some, Err, refl, sym, ap, subst, ◌∙◌, arith}
+use Rattle.std.proofs.Common.{rules, ◌≡◌, ◌≤◌, ◌+◌, ◌++◌, None, Some, Err, refl, sym, ap, subst, ◌∙◌, arith}
 use Rattle.lethe_base.specs.Counts.{Rose}
 use Rattle.lethe_base.specs.Limits.{max_place}
 use Rattle.lethe_base.specs.declared.refused.Refused.TheVariants as refused
@@ -10,10 +10,10 @@ use Rattle.lethe_loose.specs.Loose.{MayWrite}
 use Rattle.lethe_core.specs.Flights.{with_page_of, written_by}
 use Rattle.lethe_core.specs.Keeps.{Keeps}
 use Rattle.lethe_core.specs.Running.{Holds}
-use Rattle.lethe_core.specs.View.{View, view_of}
+use Rattle.lethe_core.specs.View.{view_of}
 use Rattle.lethe_stored.specs.Stored.{Stored}
 use Rattle.lethe_core.proofs.Hindered.{as_itself, keeps_itself, like_of}
-use Rattle.lethe_core.proofs.Pages.{flying_found, held_now, may_write, on_err, refused_keeps, stays, unwritten_kept, written_holds, written_keeps}
+use Rattle.lethe_core.proofs.Pages.{flying_found, held_now, may_write, refused_keeps, stays, unwritten_kept, written_holds, written_keeps}
 use Rattle.lethe_core.proofs.holding.Core.write_now.Goals as goal
 
 pub returns-in_default-clause-keeps : goal.returns-in_default-clause-keeps
