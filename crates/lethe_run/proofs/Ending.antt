@@ -1,5 +1,5 @@
 -- How a run's end follows from what its parts say.
-use Rattle.std.proofs.Common.{◌≡◌, ◌<◌, ◌≤◌, ◌+◌, ℕ, Bool, true, false, List, [], ◌++◌, length, take, Option, Some, None, IfSome, IsSome, IfOk, Result, Ok, Err, inl, inr, refl, sym, ap, ◌∙◌, subst, arith, append-nil}
+use Rattle.std.proofs.Common.{◌≡◌, ◌<◌, ◌≤◌, ◌+◌, ℕ, suc, Bool, true, false, List, [], ◌∷◌, ◌++◌, length, take, Option, Some, None, IfSome, IsSome, IfOk, Result, Ok, Err, inl, inr, refl, sym, ap, ◌∙◌, subst, arith, append-nil}
 use Rattle.std.specs.Prelude.{sum_by}
 use Rattle.std.specs.Io.KnownBytes.{Consumes, IsAtEnd, Appends, Keeps}
 use Rattle.std.proofs.lemmas.Bool.{cases_lt, lt-ltb}
@@ -38,6 +38,7 @@ use Rattle.lethe_run.specs.declared.reason.Reason.{Reason}
 use Rattle.lethe_run.specs.declared.reason.Reason.TheVariants as reason
 use Rattle.lethe_run.specs.Transcript.{Start, text_of}
 use Rattle.lethe_run.proofs.Anywhere.{stands_so, through_wider}
+use Rattle.lethe_run.proofs.Phases.{front_text}
 
 -- what stands behind the limit changes nothing
 past_limit : (bytes more : Bytes) → 16777216 < length bytes → script_of (bytes ++ more) ≡ script_of bytes
@@ -231,18 +232,20 @@ module _ (run : Run) (config : Fields) (asks : Asks run config) (phases : List (
   script_ended Refused e = (config, asks, all true e)
   script_ended WriteFault e = (
     e.0,
-    text_of e.1.lines,
+    text_of (e.1.before ++ e.1.last ∷ []),
     inr (inr (inr (
       config,
       asks,
       record {
-        lines = e.1.lines;
-        script = script (λ p. (count : ℕ) × Carries run config (take count p) e.1.lines) (e.1.count, carries (take e.1.count phases) e.1.lines e.1.told e.1.served);
+        before = e.1.before;
+        last = e.1.last;
+        script = script (λ p. Carries run config (take (suc (length e.1.before)) p) (e.1.before ++ e.1.last ∷ [])) (carries (take (suc (length e.1.before)) phases) (e.1.before ++ e.1.last ∷ []) e.1.told e.1.served);
         is = refl;
+        whole = e.1.whole;
         sound = sound;
       },
     ))),
-    e.1.written,
+    front_text run.taken_before e.1.whole.0 run.taken e.1.before e.1.last e.1.whole.1 e.1.whole.2,
   )
   script_ended NoMemory e = (
     config,

@@ -15,13 +15,14 @@ use Rattle.lethe_run.specs.declared.status.Status.{Status}
 use Rattle.lethe_run.specs.declared.status.Status.TheVariants.{Answered, BadWords, BadScript, ReadFault, WriteFault, Refused, NoMemory, Damaged, OtherConfig}
 use Rattle.lethe_run.specs.Anywhere.{AreTold, AreToldThrough, standing_of}
 use Rattle.lethe_run.specs.Ends.{IsBegun}
+use Rattle.lethe_run.specs.Printed.{lines_text}
 use Rattle.lethe_run.specs.Scripts.{All, Behind, Inside, IsToldFrom, Serves, ScriptEnds, IsCutBy}
 use Rattle.lethe_run.specs.Serving.{IsOn, IsPhase, Point, opened_in}
 use Rattle.lethe_run.specs.Slots.{Slots, no_slots}
 use Rattle.lethe_run.specs.Transcript.{Start, text_of, has_refusal}
-use Rattle.lethe_run.proofs.Anywhere.{stands_so, through_more}
+use Rattle.lethe_run.proofs.Anywhere.{as_many, stands_so, through_more}
 use Rattle.lethe_run.proofs.Images.{calls_then}
-use Rattle.lethe_run.proofs.Phases.{SoFar, so_far_start, so_far_more, carried}
+use Rattle.lethe_run.proofs.Phases.{SoFar, front_text, so_far_start, so_far_more, carried}
 
 get_behind : {X : Type 0} (front : List X) (x : X) (rest : List X) → slice_get (front ++ x ∷ rest) (length front) ≡ Some x
 get_behind [] x rest = refl
@@ -90,16 +91,17 @@ module _ (Tells Ports : Type 0) (start then : View) (itself : Tells → Image th
     pub next_so_far : whole ≡ true → Before Tells Ports start then behind Is (yielded ++ orders ∷ []) (lines ++ more ∷ [])
     next_so_far is = subst (λ p. Before Tells Ports start then behind Is (yielded ++ p ∷ []) (lines ++ more ∷ [])) (part_whole orders orders part phase.1 refl phase.2 (phase.3 is)) begun_so_far
 
-    stopped_behind : (old new : Option Bytes) → whole ≡ true → AppendsFront old new (text_of (lines ++ more ∷ [])) → Behind Tells Ports start then.disk then.faults old new phases
-    stopped_behind old new is written =
-        let count = suc (length yielded) in
-        let next = subst (λ p. Before Tells Ports start then behind Is p (lines ++ more ∷ [])) (sym (ap (take count) are ∙ take_more yielded orders rest)) (next_so_far is) in
+    stopped_behind : (old middle new : Option Bytes) → whole ≡ true → Appends old middle (text_of lines) → AppendsFront middle new (lines_text more) → Behind Tells Ports start then.disk then.faults old new phases
+    stopped_behind old middle new is before last =
+        let front : take (suc (length lines)) phases ≡ yielded ++ orders ∷ [] =
+        ap (λ n. take (suc n) phases) (as_many Ports start.faults now.faults yielded (standing_of start no_slots) lines (standing_of now between) so_far.told) ∙ ap (take (suc (length yielded))) are ∙ take_more yielded orders rest in
+        let next = subst (λ p. Before Tells Ports start then behind Is p (lines ++ more ∷ [])) (sym front) (next_so_far is) in
         record {
-          lines = lines ++ more ∷ [];
-          count = count;
-          told = tells (take count phases) (lines ++ more ∷ []) next;
-          served = serves (take count phases) (lines ++ more ∷ []) next;
-          written = written;
+          before = lines;
+          last = more;
+          told = tells (take (suc (length lines)) phases) (lines ++ more ∷ []) next;
+          served = serves (take (suc (length lines)) phases) (lines ++ more ∷ []) next;
+          whole = (middle, before, last);
         }
 
     begun : IsBegun phases (yielded ++ part ∷ [])
@@ -121,17 +123,17 @@ module _ (Tells Ports : Type 0) (start then : View) (itself : Tells → Image th
       written = written;
     }
 
-    pub cut_ends : (old new : Option Bytes) (Rose SinkRose : Type 0) (status : Status) → (Rose → SinkRose) → AppendsFront old new (text_of (lines ++ more ∷ [])) → IsCutBy (whole ≡ true) Rose status
+    pub cut_ends : (old middle new : Option Bytes) (Rose SinkRose : Type 0) (status : Status) → (Rose → SinkRose) → Appends old middle (text_of lines) → AppendsFront middle new (lines_text more) → IsCutBy (whole ≡ true) Rose status
         → ScriptEnds Tells Ports start then.disk then.faults old new SinkRose phases status
-    cut_ends old new Rose SinkRose NoMemory rose written cut = inside old new written
-    cut_ends old new Rose SinkRose WriteFault rose written cut = (rose cut.1, stopped_behind old new cut.0 written)
-    cut_ends old new Rose SinkRose Answered rose written cut = absurd cut
-    cut_ends old new Rose SinkRose Refused rose written cut = absurd cut
-    cut_ends old new Rose SinkRose BadWords rose written cut = absurd cut
-    cut_ends old new Rose SinkRose BadScript rose written cut = absurd cut
-    cut_ends old new Rose SinkRose ReadFault rose written cut = absurd cut
-    cut_ends old new Rose SinkRose Damaged rose written cut = absurd cut
-    cut_ends old new Rose SinkRose OtherConfig rose written cut = absurd cut
+    cut_ends old middle new Rose SinkRose NoMemory rose before last cut = inside old new (front_text old middle new lines more before last)
+    cut_ends old middle new Rose SinkRose WriteFault rose before last cut = (rose cut.1, stopped_behind old middle new cut.0 before last)
+    cut_ends old middle new Rose SinkRose Answered rose before last cut = absurd cut
+    cut_ends old middle new Rose SinkRose Refused rose before last cut = absurd cut
+    cut_ends old middle new Rose SinkRose BadWords rose before last cut = absurd cut
+    cut_ends old middle new Rose SinkRose BadScript rose before last cut = absurd cut
+    cut_ends old middle new Rose SinkRose ReadFault rose before last cut = absurd cut
+    cut_ends old middle new Rose SinkRose Damaged rose before last cut = absurd cut
+    cut_ends old middle new Rose SinkRose OtherConfig rose before last cut = absurd cut
 
 -- Making a port is nothing on the disk
 
@@ -180,11 +182,11 @@ module _ (Tells Ports : Type 0) (start mid : View) (idle : Tells → IsIdle star
       ends_idle SinkRose phases WriteFault e = (
         e.0,
         record {
-          lines = e.1.lines;
-          count = e.1.count;
-          told = told_idle (take e.1.count phases) e.1.lines e.1.told;
-          served = serves_idle (take e.1.count phases) e.1.lines e.1.served;
-          written = e.1.written;
+          before = e.1.before;
+          last = e.1.last;
+          told = told_idle (take (suc (length e.1.before)) phases) (e.1.before ++ e.1.last ∷ []) e.1.told;
+          served = serves_idle (take (suc (length e.1.before)) phases) (e.1.before ++ e.1.last ∷ []) e.1.served;
+          whole = e.1.whole;
         },
       )
       ends_idle SinkRose phases NoMemory e = record {

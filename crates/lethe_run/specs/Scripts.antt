@@ -1,5 +1,5 @@
 -- How a script ends that is carried out over a store.
-use Rattle.std.specs.Prelude.{◌≡◌, ℕ, Bool, true, false, List, take, Option}
+use Rattle.std.specs.Prelude.{◌≡◌, ℕ, suc, Bool, true, false, List, [], ◌∷◌, ◌++◌, length, take, Option}
 use Rattle.std.specs.Io.KnownBytes.{Appends}
 use Rattle.lethe_wire.specs.Causes.{AppendsFront}
 use Rattle.lethe_base.specs.Keys.{Bytes}
@@ -11,6 +11,7 @@ use Rattle.lethe_run.specs.declared.status.Status.{Status}
 use Rattle.lethe_run.specs.declared.status.Status.TheVariants.{Answered, BadWords, BadScript, ReadFault, WriteFault, Refused, NoMemory, Damaged, OtherConfig}
 use Rattle.lethe_run.specs.Anywhere.{AreToldThrough, Standing, standing_of}
 use Rattle.lethe_run.specs.Ends.{IsBegun}
+use Rattle.lethe_run.specs.Printed.{lines_text}
 use Rattle.lethe_run.specs.Serving.{IsOn, IsCarried, Point}
 use Rattle.lethe_run.specs.Slots.{no_slots}
 use Rattle.lethe_run.specs.Transcript.{Start, course, text_of, has_refusal}
@@ -32,13 +33,13 @@ pub record All (Tells PortsFail : Type 0) (start : View) (finish : Seen) (now : 
   pub written : Appends old new (text_of lines)
   pub is : has_refusal lines ≡ refused
 
--- some were, and the sink failed in the lines of the last of them
+-- some were, and the sink failed in the lines of the last of them; those of the phases before it were written whole
 pub record Behind (Tells PortsFail : Type 0) (start : View) (finish : Seen) (now : ℕ) (old new : Option Bytes) (phases : List (List Order)) : Type 0 where
-  pub lines : List (List Line)
-  pub count : ℕ
-  pub told : IsToldFrom PortsFail start now (take count phases) lines
-  pub served : Serves Tells PortsFail start finish now (take count phases) lines
-  pub written : AppendsFront old new (text_of lines)
+  pub before : List (List Line)
+  pub last : List Line
+  pub told : IsToldFrom PortsFail start now (take (suc (length before)) phases) (before ++ last ∷ [])
+  pub served : Serves Tells PortsFail start finish now (take (suc (length before)) phases) (before ++ last ∷ [])
+  pub whole : (middle : Option Bytes) × Appends old middle (text_of before) × AppendsFront middle new (lines_text last)
 
 -- none were, or some, and of the next one the first orders
 pub record Inside (Tells PortsFail : Type 0) (start : View) (finish : Seen) (now : ℕ) (old new : Option Bytes) (phases : List (List Order)) : Type 0 where

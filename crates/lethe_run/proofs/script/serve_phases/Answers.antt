@@ -14,7 +14,7 @@ use Rattle.lethe_run.specs.Scripts.{ScriptEnds}
 use Rattle.lethe_run.specs.Transcript.{is_refusal}
 use Rattle.lethe_run.proofs.Endings.{Phase, Before, before_any, next_so_far, cut_ends, all_ends}
 use Rattle.lethe_run.proofs.Holding.{first_slots, none_shown}
-use Rattle.lethe_run.proofs.Phases.{appends_none, whole_text, front_text, refusal_more}
+use Rattle.lethe_run.proofs.Phases.{appends_none, whole_text, refusal_more}
 use Rattle.lethe_run.proofs.Runs.{taken_next}
 use Rattle.lethe_run.proofs.Slotted.{flat_more, flat_parts, part_finds, part_holds}
 use Rattle.lethe_run.proofs.script.serve_phases.Goals as goal
@@ -111,8 +111,7 @@ returns-in-Err-clause-ends g c =
     taken_next c.args.phases c.into_iter-orders-iterator.result c.loop-orders.yielded c.loop-orders.orders-iterator c.in-Some.orders rest (c.into_iter-orders-iterator.ensures.into_iter_gives.0 ∙ c.into_vec-orders-items.ensures) c.loop-orders.yielded_by c.in-Some.ensures.steps.0 in
     subst (λ d. ScriptEnds g.D.Disk.tells g.D.Disk.ports_fail old (g.D.Disk.seen d) (g.D.Disk.faults d) t0 t2 (Rose s0 s2) c.args.phases c.in-Err.status) (sym c.hand_back.ensures)
     (cut_ends g.D.Disk.tells g.D.Disk.ports_fail old new (λ told. laws.itself told c.serve_phase-served.new.engine.core.disk) behind (λ h. AreShown h held) mid between (λ h. AreShown h was) c.loop-orders.invariant.faults c.serve_phase-served.ensures.faults c.args.phases c.loop-orders.yielded rest c.in-Some.orders are so_far.0 more
-    whole so_far.3 phase t0 t2 (Rose s1 s2) (Rose s0 s2) c.in-Err.status (λ rose. omega (arith, rose, low))
-    (front_text t0 (g.K.Sink.taken c.loop-orders.sink) t2 so_far.0 more so_far.1 c.print_phase.ensures.front) c.in-Err.ensures.err)
+    whole so_far.3 phase t0 (g.K.Sink.taken c.loop-orders.sink) t2 (Rose s1 s2) (Rose s0 s2) c.in-Err.status (λ rose. omega (arith, rose, low)) so_far.1 c.print_phase.ensures.front c.in-Err.ensures.err)
 
 pub returns-clause-ends : goal.returns-clause-ends
 returns-clause-ends g c =
