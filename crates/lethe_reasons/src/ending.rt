@@ -1,10 +1,9 @@
 //! The reasons of a run that began.
 
 use crate::message::Message;
+use crate::opening::GUIDE;
 use lethe_base::NoMemory;
 use std::alloc::Global;
-
-const GUIDE: &str = " (docs/GUIDE.md, When something goes wrong)";
 
 /// The source failed.
 pub fn source_failed(alloc: Global) -> Result<Message, NoMemory> {
