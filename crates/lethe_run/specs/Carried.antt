@@ -1,5 +1,5 @@
 -- What a script that was carried out leaves on the disk.
-use Rattle.std.specs.Prelude.{◌≡◌, ◌≤◌, ◌↔◌, ℕ, not, List, filter, filter_map, slice_get, take, All, Option, None, option_map}
+use Rattle.std.specs.Prelude.{◌≡◌, ◌≤◌, ◌<◌, ◌↔◌, ℕ, not, List, [], ◌∷◌, length, filter, filter_map, slice_get, take, All, Option, None, option_map}
 use Rattle.lethe_base.specs.History.{History, Change, after, change_at}
 use Rattle.lethe_base.specs.declared.config.Fields.{Fields}
 use Rattle.lethe_disk.specs.Directory.{Directory}
@@ -43,11 +43,21 @@ pub record GoesThen (P Q : Directory → Type 0) (moment : ℕ) (start finish : 
 abbrev pub HasDone : History → List Line → History → Type 0
 HasDone h lines g = All (λ place. change_at g place ≡ change_at h place) (filter_map ok_place lines)
 
--- From a moment on, which isn't behind the end, each crash leaves what is kept for a history with all changes that these lines answer with `ok`.
-pub record IsLasting (config : Fields) (opened h : History) (finish : Seen) (lines : List Line) : Type 0 where
-  pub since : ℕ
+-- From this moment on, which isn't behind the end, each crash leaves what is kept for a history with all changes that these lines answer with `ok`.
+pub record IsLasting (config : Fields) (opened h : History) (finish : Seen) (since : ℕ) (lines : List Line) : Type 0 where
   pub upto : since ≤ finish.moment
   pub each : (m : ℕ) (c : Directory) → since ≤ m → m ≤ finish.moment → finish.left m c → (g : History) × IsPrefixFrom opened h g × HasDone h lines g × IsKept config c g
+
+-- Between these moments no crash leaves a change that these lines answer with `ok`.
+pub record IsUnbegun (config : Fields) (opened h : History) (finish : Seen) (from upto : ℕ) (lines : List Line) : Type 0 where
+  pub each : (m : ℕ) (c : Directory) → from ≤ m → m ≤ upto → finish.left m c
+      → (g : History) × IsPrefixFrom opened h g × All (λ place. length g < place) (filter_map ok_place lines) × IsKept config c g
+
+-- Phase after phase: from a moment on its changes last, and up to there no crash leaves one of a later phase. So each phase's changes last before the first of the next is on the disk.
+abbrev pub AreLasting : Fields → History → History → Seen → ℕ → List (List Line) → Type 0
+AreLasting config opened h finish from [] = Unit {0}
+AreLasting config opened h finish from (lines ∷ more) =
+    (since : ℕ) × (from ≤ since) × IsLasting config opened h finish since lines × All (IsUnbegun config opened h finish from since) more × AreLasting config opened h finish since more
 
 -- the certificate of a reply, with its tick's place
 abbrev pub certificate_in : Reply → Option (ℕ × Certificate)
@@ -97,8 +107,8 @@ pub record IsCarriedOut (config : Fields) (course : Course) (start finish : Seen
   pub served : AreServed course opened phases lines history
   pub moment : ℕ
   pub any_moment : GoesThen (IsKeptInOpening kept config left change start.directory) (IsKeptFor config opened history) moment start finish
-  -- from a moment on no crash loses what was answered
-  pub lasting : All (IsLasting config opened history finish) lines
+  -- from the end of each phase on no crash loses what its lines answer, and up to there none leaves a change of a later one
+  pub lasting : AreLasting config opened history finish moment lines
   -- at a moment of the run what each certificate says was so, and from there on no crash loses its tick
   pub certified : All (λ line. All (IsBorneOut config start.moment history finish) (certificates_in line)) lines
   pub leaves : IsLeft config finish (without_failed history) (failed_in history)

@@ -14,7 +14,7 @@ use Rattle.lethe_script.specs.declared.order.Act.{Act}
 use Rattle.lethe_script.specs.declared.order.Order.{Order}
 use Rattle.lethe_run.specs.declared.reply.Line.{Line}
 use Rattle.lethe_run.specs.declared.reply.Reply.{Reply}
-use Rattle.lethe_run.specs.Carried.{HasConfig, IsBorneOut, IsLasting, certificate_in, certificates_in, failed_in}
+use Rattle.lethe_run.specs.Carried.{AreLasting, HasConfig, IsBorneOut, certificate_in, certificates_in, failed_in}
 use Rattle.lethe_run.specs.Transcript.{Course, Start, course, Answers, Follows, IsServed, AreServed}
 
 -- a history for which a store stood, and a moment of its disk from which on each crash has it
@@ -77,7 +77,7 @@ pub record IsCarried (course : Course) (begin : Start) (from : Point) (phases : 
   pub served : AreServed course from.history phases lines history
   pub calls : Continues start finish
   pub each : (m : ℕ) (c : Directory) → from.moment ≤ m → m ≤ finish.moment → finish.left m c → IsKeptFor begin.config from.history history c
-  pub lasting : All (IsLasting begin.config from.history history finish) lines
+  pub lasting : AreLasting begin.config from.history history finish from.moment lines
   pub certified : All (λ line. All (IsBorneOut begin.config begin.moment history finish) (certificates_in line)) lines
   pub leaves : IsLeft begin.config finish (without_failed history) (failed_in history)
   pub config_is : failed_in history ≡ None → HasConfig begin.config finish.directory
