@@ -193,6 +193,7 @@ module _ (run : Run) (config : Fields) (asks : Asks run config) (phases : List (
     };
     lasting = c.lasting;
     certified = c.certified;
+    seen = c.seen;
     leaves = c.leaves;
     config_is = c.config_is;
     clean = c.clean;

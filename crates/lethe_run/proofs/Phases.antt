@@ -17,11 +17,12 @@ use Rattle.lethe_script.specs.declared.order.Order.{Order}
 use Rattle.lethe_wire.specs.Causes.{AppendsFront}
 use Rattle.lethe_run.specs.declared.reply.Line.{Line}
 use Rattle.lethe_run.specs.Printed.{lines_text}
-use Rattle.lethe_run.specs.Carried.{IsBorneOut, certificates_in}
+use Rattle.lethe_run.specs.Carried.{IsBorneOut, IsSeen, certificates_in, looks_in}
 use Rattle.lethe_run.specs.Serving.{Advances, IsBorneOn, IsOn, IsPhase, IsCarried, Point}
 use Rattle.lethe_run.specs.Transcript.{Course, Start, course, IsServed, AreServed, text_of}
 use Rattle.lethe_run.proofs.Images.{still, leaves, has_config, is_clean}
 use Rattle.lethe_run.proofs.Lasting.{AreStaying, Stays, begins_now, bound_now, done_behind, done_within, seen_now, staying_lasting, staying_next}
+use Rattle.lethe_run.proofs.Seen.{all_seen_later}
 use Rattle.lethe_run.proofs.Serving.{advances_then, all_borne_later, served_later}
 
 -- what was written
@@ -59,6 +60,10 @@ front_text old mid new lines more a b = subst (AppendsFront old new) (sym (text_
 abbrev pub AreBorneOn : Start → History → View → List Line → Type 0
 AreBorneOn begin h view lines = All (IsBorneOn begin h view) (certificates_in lines)
 
+-- and what its lines tell of something stored
+abbrev pub AreSeen : Start → History → View → List Line → Type 0
+AreSeen begin h view lines = All (IsSeen begin.config begin.moment h view.disk) (looks_in lines)
+
 -- the phases so far, and what else is shown of the history that they made
 pub record SoFar (Ports : Type 0) (begin : Start) (from : Point) (phases : List (List Order)) (lines : List (List Line)) (start now : View) (Shown : History → Type 0) : Type 0 where
   pub history : History
@@ -67,10 +72,11 @@ pub record SoFar (Ports : Type 0) (begin : Start) (from : Point) (phases : List 
   pub on : IsOn begin from history now
   pub lasting : AreStaying begin from.history history now from.moment lines
   pub certified : All (AreBorneOn begin history now) lines
+  pub seen : All (AreSeen begin history now) lines
   pub shown : Shown history
 
 pub so_far_start : (Ports : Type 0) (begin : Start) (from : Point) (view : View) (Shown : History → Type 0) → IsOn begin from from.history view → Shown from.history → SoFar Ports begin from [] [] view view Shown
-so_far_start Ports begin from view Shown on shown = record { history = from.history; served = refl; goes = still begin from.history view; on = on; lasting = on.stands.later; certified = All-nil (AreBorneOn begin from.history view); shown = shown }
+so_far_start Ports begin from view Shown on shown = record { history = from.history; served = refl; goes = still begin from.history view; on = on; lasting = on.stands.later; certified = All-nil (AreBorneOn begin from.history view); seen = All-nil (AreSeen begin from.history view); shown = shown }
 
 phases_more : (c : Course) (start middle h : History) (phases : List (List Order)) (lines : List (List Line)) (orders : List Order) (more : List Line)
     → AreServed c start phases lines middle → IsServed c middle orders more h → AreServed c start (phases ++ orders ∷ []) (lines ++ more ∷ []) h
@@ -105,6 +111,10 @@ so_far_more Ports begin from h phases lines part more start now then Was Is le s
       certified = All-append (AreBorneOn begin h then) lines (more ∷ [])
           (All-weaker (AreBorneOn begin so_far.history now) (AreBorneOn begin h then) (λ ls is. all_borne_later begin so_far.history h now then phase.goes (certificates_in ls) is) lines so_far.certified)
           (All-cons (AreBorneOn begin h then) more [] phase.certified (All-nil (AreBorneOn begin h then)));
+      seen = All-append (AreSeen begin h then) lines (more ∷ [])
+          (All-weaker (AreSeen begin so_far.history now) (AreSeen begin h then)
+          (λ ls is. all_seen_later begin.config begin.moment so_far.history h phase.served.begins now.disk then.disk phase.goes.calls (looks_in ls) is) lines so_far.seen)
+          (All-cons (AreSeen begin h then) more [] phase.seen (All-nil (AreSeen begin h then)));
       shown = shown;
     }
 
@@ -131,6 +141,7 @@ carried Ports begin from phases lines start now Shown itself so_far = record {
   lasting = staying_lasting begin from.history so_far.history now from.moment lines so_far.lasting;
   certified = All-weaker (AreBorneOn begin so_far.history now) (λ line. All (IsBorneOut begin.config begin.moment so_far.history now.disk) (certificates_in line))
       (λ line is. All-weaker (IsBorneOn begin so_far.history now) (IsBorneOut begin.config begin.moment so_far.history now.disk) (borne_out begin so_far.history now) (certificates_in line) is) lines so_far.certified;
+  seen = so_far.seen;
   leaves = leaves begin from so_far.history now so_far.on itself;
   config_is = has_config begin from so_far.history now so_far.on;
   clean = is_clean begin from so_far.history now so_far.on;
