@@ -25,8 +25,7 @@ use Rattle.lethe_script.specs.declared.order.Act.TheVariants as acts
 use Rattle.lethe_run.specs.declared.reply.Reply.{Reply}
 use Rattle.lethe_run.specs.declared.reply.Reply.TheVariants as reply
 use Rattle.lethe_run.specs.Anywhere.{IsTold, standing_of}
-use Rattle.lethe_run.specs.Carried.{IsSeen, certificate_in, looked_in}
-use Rattle.lethe_run.specs.Carried.Look.{Limit}
+use Rattle.lethe_run.specs.Carried.{IsSeen, Limit, certificate_in, looked_in}
 use Rattle.lethe_run.specs.Holding.{IsShown}
 use Rattle.lethe_run.specs.Replies.{unread_of}
 use Rattle.lethe_run.specs.Serving.{Advances, IsAnswered, IsBorneOn, IsLookedUp, IsOn, Point, opened_in}

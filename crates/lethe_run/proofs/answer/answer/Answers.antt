@@ -14,7 +14,7 @@ use Rattle.lethe_script.specs.Slots.{held_behind}
 use Rattle.lethe_script.specs.declared.order.Act.TheVariants as acts
 use Rattle.lethe_run.specs.declared.reply.Reply.TheVariants as reply
 use Rattle.lethe_run.specs.Anywhere.{IsTold, standing_of}
-use Rattle.lethe_run.specs.Carried.Look.{Whole}
+use Rattle.lethe_run.specs.Carried.{Whole}
 use Rattle.lethe_run.specs.Holding.{held_in, slots_of}
 use Rattle.lethe_run.specs.Replies.{reply_of, tick_reply_of, unread_of}
 use Rattle.lethe_run.specs.Serving.{IsAnswered, opened_in}

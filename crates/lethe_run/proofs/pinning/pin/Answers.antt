@@ -7,7 +7,7 @@ use Rattle.lethe_engine.specs.Answers.{Answers}
 use Rattle.lethe_engine.specs.Pins.{pinned_face}
 use Rattle.lethe_bound.specs.Limits.{IsLimit}
 use Rattle.lethe_stored.specs.Stored.{layout_of}
-use Rattle.lethe_run.specs.Carried.Look.{Limit}
+use Rattle.lethe_run.specs.Carried.{Limit}
 use Rattle.lethe_run.specs.Holding.{pin_of, slots_of}
 use Rattle.lethe_run.specs.Serving.{opened_in}
 use Rattle.lethe_run.proofs.Holding.{behind_free, held_more, holds_more, pin_at, shown_now, shown_set, slots_more, ten_of}
