@@ -5,6 +5,7 @@ pub mod Lasting
 pub mod Outcomes
 pub mod Shorts
 pub mod Steps
+pub mod Seen
 pub mod Pins
 pub mod Holding
 pub mod Anywhere
@@ -13,6 +14,7 @@ pub mod Looks
 pub mod Pinned
 pub mod Slotted
 pub mod Runs
+pub mod Refusals
 pub mod Options
 pub mod Turns
 pub mod Serving
