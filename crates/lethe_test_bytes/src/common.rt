@@ -2,7 +2,7 @@
 
 use lethe_base::{Config, Fields, Key, Pick};
 use std::alloc::Global;
-use std::test::Fail;
+use std::process::Abort;
 
 /// Threshold 100, ratio 2, levels 2, page 2, tile 2, file 2, buffer 4.
 pub(crate) const SMALL: Fields = Fields {
@@ -17,50 +17,55 @@ pub(crate) const SMALL: Fields = Fields {
 };
 
 /// The small configuration with this pick.
-pub(crate) fn small(pick: Pick) -> Result<Config, Fail> {
-    Ok(
-        Config::new(Fields { pick, ..SMALL })
-            .ok()
-            .ok_or("a configuration")?,
-    )
+pub(crate) fn small(rt: &impl Abort, pick: Pick) -> Config {
+    Config::new(Fields { pick, ..SMALL }).expect(rt, "a configuration")
 }
 
-pub(crate) fn key_of(alloc: Global, text: &str) -> Result<Key, Fail> {
-    Ok(Key::new(text.as_bytes().to_vec(alloc)?)?)
+pub(crate) fn key_of(alloc: Global, rt: &impl Abort, text: &str) -> Key {
+    let bytes = text.as_bytes().to_vec(alloc).expect(rt, "memory");
+    Key::new(bytes).expect(rt, "a key")
 }
 
 /// The bytes with another byte at a place.
 pub(crate) fn changed(
     alloc: Global,
+    rt: &impl Abort,
     bytes: &[u8],
     place: usize,
     byte: u8,
-) -> Result<Vec<u8>, Fail> {
-    let mut copy = bytes.to_vec(alloc)?;
-    *copy.get_mut(place).ok_or("a place")? = byte;
-    Ok(copy)
+) -> Vec<u8> {
+    let mut copy = bytes.to_vec(alloc).expect(rt, "memory");
+    *copy.get_mut(place).expect(rt, "a place") = byte;
+    copy
+}
+
+/// So many of the first bytes.
+pub(crate) fn cut<'a>(rt: &impl Abort, bytes: &'a [u8], len: usize) -> &'a [u8] {
+    bytes.get(..len).expect(rt, "a cut")
+}
+
+/// The bytes with others behind them.
+pub(crate) fn extended(alloc: Global, rt: &impl Abort, bytes: &[u8], behind: &[u8]) -> Vec<u8> {
+    let mut long = bytes.to_vec(alloc).expect(rt, "memory");
+    long.extend_from_slice(behind).expect(rt, "memory");
+    long
 }
 
 /// The bytes with others in place of those from a place on.
 pub(crate) fn replaced(
     alloc: Global,
+    rt: &impl Abort,
     bytes: &[u8],
     place: usize,
     others: &[u8],
-) -> Result<Vec<u8>, Fail> {
-    let mut copy = extended(alloc, &cut(alloc, bytes, place)?, others)?;
-    copy.extend_from_slice(bytes.get(copy.len()..).ok_or("bytes")?)?;
-    Ok(copy)
+) -> Vec<u8> {
+    let mut copy = extended(alloc, rt, cut(rt, bytes, place), others);
+    let rest = bytes.get(copy.len()..).expect(rt, "bytes");
+    copy.extend_from_slice(rest).expect(rt, "memory");
+    copy
 }
 
-/// So many of the first bytes.
-pub(crate) fn cut(alloc: Global, bytes: &[u8], len: usize) -> Result<Vec<u8>, Fail> {
-    Ok(bytes.get(..len).ok_or("a cut")?.to_vec(alloc)?)
-}
-
-/// The bytes with others behind them.
-pub(crate) fn extended(alloc: Global, bytes: &[u8], behind: &[u8]) -> Result<Vec<u8>, Fail> {
-    let mut long = bytes.to_vec(alloc)?;
-    long.extend_from_slice(behind)?;
-    Ok(long)
+/// The bytes have to be these.
+pub(crate) fn check_bytes(rt: &impl Abort, found: &[u8], wanted: &[u8]) {
+    assert!(rt; found == wanted, "{found:?}");
 }

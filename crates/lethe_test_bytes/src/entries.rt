@@ -1,12 +1,12 @@
 //! Tests of the spelling of numbers and entries.
 
-use crate::common::{changed, cut};
+use crate::common::{changed, check_bytes, cut};
 use lethe_base::{
-    Body, BodyKind, Entry, EntryRefused, Front, entry_len, one_spelling, read_body, read_entry,
+    Body, BodyKind, Entry, EntryRefused, entry_len, one_spelling, read_body, read_entry,
     read_front, read_key, read_place, take_u8, take_u16, take_u32, take_u64, write_entry,
 };
 use std::alloc::Global;
-use std::test::Fail;
+use std::process::Abort;
 
 /// The put of key `a`, delete key 5, value `x` at place 1.
 const PUT: &[u8] = b"\x01\0\0\0\0\0\0\0\x01\0\x01a\0\0\0\0\0\0\0\x05\0\x01x";
@@ -20,31 +20,34 @@ fn read(alloc: Global, bytes: &[u8]) -> Result<(Entry, usize), EntryRefused> {
 }
 
 /// The bytes of an entry, written again as they were read.
-fn rewritten(alloc: Global, bytes: &[u8]) -> Result<Vec<u8>, Fail> {
-    let (entry, end) = read(alloc, bytes).ok().ok_or("an entry")?;
-    if end != bytes.len() || entry_len(&entry) != end {
-        return Err(Fail::new("a length"));
-    }
-    let mut out = Vec::with_capacity(alloc, end)?;
-    write_entry(&mut out, &entry).ok().ok_or("no memory")?;
-    Ok(out)
-}
-
-fn front_of(alloc: Global, bytes: &[u8]) -> Result<(Front, usize), Fail> {
-    Ok(read_front(alloc, bytes, 0).ok().ok_or("a front")?)
-}
-
-fn body_of(alloc: Global, kind: BodyKind, bytes: &[u8], at: usize) -> Result<Body, Fail> {
-    let (body, _) = read_body(alloc, kind, bytes, at).ok().ok_or("a body")?;
-    Ok(body)
+fn rewritten(alloc: Global, rt: &impl Abort, bytes: &[u8]) -> Vec<u8> {
+    let (entry, end) = read(alloc, bytes).expect(rt, "an entry");
+    assert!(rt; end == bytes.len() && entry_len(&entry) == end);
+    let mut out = Vec::with_capacity(alloc, end).expect(rt, "memory");
+    write_entry(&mut out, &entry).expect(rt, "memory");
+    out
 }
 
 /// An entry that is read in two parts: its kind, where its body begins, and the whole.
-fn in_parts(alloc: Global, bytes: &[u8]) -> Result<(BodyKind, usize, Entry), Fail> {
-    let (front, at) = front_of(alloc, bytes)?;
+fn in_parts(alloc: Global, rt: &impl Abort, bytes: &[u8]) -> (BodyKind, usize, Entry) {
+    let (front, at) = read_front(alloc, bytes, 0).expect(rt, "a front");
     let kind = front.kind;
-    let body = body_of(alloc, kind, bytes, at)?;
-    Ok((kind, at, front.with(body)))
+    let (body, _) = read_body(alloc, kind, bytes, at).expect(rt, "a body");
+    (kind, at, front.with(body))
+}
+
+/// Whether the entry is that of `PUT`.
+fn is_put_of_a(entry: &Entry) -> bool {
+    entry.seq == 1
+        && entry.since.is_none()
+        && entry.key.bytes() == b"a".as_slice()
+        && matches!(entry.body, Body::Put { dkey: 5, .. })
+}
+
+fn check_parts(alloc: Global, rt: &impl Abort) {
+    let (kind, at, entry) = in_parts(alloc, rt, PUT);
+    assert!(rt; kind == BodyKind::Put && at == 12);
+    assert!(rt; is_put_of_a(&entry));
 }
 
 /// The length of the key at a place, and where it ends.
@@ -54,21 +57,13 @@ fn key_len(alloc: Global, bytes: &[u8], at: usize) -> Option<(usize, usize)> {
 }
 
 #[test]
-fn entries_are_spelled_as_the_format_says(rt: HostRuntime) -> Result<(), Fail> {
-    let alloc = rt.alloc();
+fn entries_are_spelled_as_the_format_says(rt: HostRuntime) {
     for bytes in [PUT, TOMB] {
-        assert_eq!(rt; rewritten(alloc, bytes)?.as_slice(), bytes);
+        check_bytes(&rt, &rewritten(rt.alloc(), &rt, bytes), bytes);
     }
-    let (kind, at, entry) = in_parts(alloc, PUT)?;
-    assert_eq!(rt; kind, BodyKind::Put);
-    assert_eq!(rt; at, 12);
-    assert_eq!(rt; entry.seq, 1);
-    assert_eq!(rt; entry.since, None);
-    assert_eq!(rt; entry.key.bytes(), b"a".as_slice());
-    assert!(rt; matches!(entry.body, Body::Put { dkey: 5, .. }));
-    assert_eq!(rt; read_place(TOMB, 1).ok(), Some((2, 9)));
-    assert_eq!(rt; key_len(alloc, TOMB, 18), Some((1, 20)));
-    Ok(())
+    check_parts(rt.alloc(), &rt);
+    assert!(rt; read_place(TOMB, 1).ok() == Some((2, 9)));
+    assert!(rt; key_len(rt.alloc(), TOMB, 18) == Some((1, 20)));
 }
 
 /// How much of `PUT` is there, and the field that goes past its end.
@@ -96,26 +91,23 @@ const CHANGES: &[(&[u8], usize, u8, u64)] = &[
     (TOMB, 10, 0x41, 10),
 ];
 
+/// The bytes have to be refused so.
+fn check_refused(alloc: Global, rt: &impl Abort, bytes: &[u8], why: EntryRefused) {
+    let found = read(alloc, bytes).err();
+    assert!(rt; found == Some(why), "{why:?} of {bytes:?}");
+}
+
 #[test]
-fn the_first_fault_from_the_left_is_told(rt: HostRuntime) -> Result<(), Fail> {
+fn the_first_fault_from_the_left_is_told(rt: HostRuntime) {
     one_spelling();
-    let alloc = rt.alloc();
-    for row in CUT {
-        let (len, at) = *row;
-        let why = EntryRefused::Short { at };
-        assert_eq!(rt;
-            read(alloc, &cut(alloc, PUT, len)?).err(),
-            Some(why),
-            "{len} bytes"
-        );
+    for (len, at) in CUT {
+        let bytes = cut(&rt, PUT, *len);
+        check_refused(rt.alloc(), &rt, bytes, EntryRefused::Short { at: *at });
     }
-    for row in CHANGES {
-        let (entry, place, byte, at) = *row;
-        let bytes = changed(alloc, entry, place, byte)?;
-        let why = EntryRefused::Kind { at };
-        assert_eq!(rt; read(alloc, &bytes).err(), Some(why), "byte {place}");
+    for (entry, place, byte, at) in CHANGES {
+        let bytes = changed(rt.alloc(), &rt, entry, *place, *byte);
+        check_refused(rt.alloc(), &rt, &bytes, EntryRefused::Kind { at: *at });
     }
-    Ok(())
 }
 
 /// A place, and the numbers of one, two, four and eight bytes that begin there.

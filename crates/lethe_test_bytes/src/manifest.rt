@@ -2,13 +2,13 @@
 ghost use Rattle.std.specs.Prelude.{IfOk};
 ghost use Rattle.lethe_manifest.specs.Manifests.{HasSpelling};
 
-use crate::common::{changed, cut, extended, replaced, small};
-use lethe_base::{List, Pending, Pick};
+use crate::common::{SMALL, changed, check_bytes, cut, extended, replaced, small};
+use lethe_base::{Config, Fields, List, Pending, Pick};
 use lethe_manifest::{
     Cited, LastCert, Manifest, ManifestRefused, one_manifest, read_manifest, write_manifest,
 };
 use std::alloc::Global;
-use std::test::Fail;
+use std::process::Abort;
 
 /// A new store: manifest 2, threshold 100, ratio 2, levels 2, page 2, tile 2, file 2, buffer 4, pick so, segment 1.
 const NEW: &[u8] =
@@ -28,12 +28,12 @@ fn read(alloc: Global, bytes: &[u8]) -> Result<Manifest, ManifestRefused>
 }
 
 /// The manifest that `NEW` spells.
-fn new_store(alloc: Global) -> Result<Manifest, Fail>
-    ensures { IfOk result HasSpelling }
+fn new_store(alloc: Global, rt: &impl Abort) -> Manifest
+    ensures { HasSpelling result }
 {
-    let config = small(Pick::So)?;
-    let segments = vec![in alloc; 1; 1]?;
-    Ok(Manifest {
+    let config = small(rt, Pick::So);
+    let segments = vec![in alloc; 1; 1].expect(rt, "memory");
+    Manifest {
         no: 2,
         config,
         clock: 0,
@@ -43,7 +43,7 @@ fn new_store(alloc: Global) -> Result<Manifest, Fail>
         erases: List::of(Vec::new(alloc)),
         segments: List::of(segments),
         files: List::of(Vec::new(alloc)),
-    })
+    }
 }
 
 /// Whether the manifest has this number, clock, count and next number.
@@ -51,32 +51,34 @@ fn are_numbers(manifest: &Manifest, no: u64, clock: u64, count: u64, next: u64) 
     manifest.no == no && manifest.clock == clock && manifest.count == count && manifest.next == next
 }
 
-fn new_store_written(alloc: Global) -> Result<Vec<u8>, Fail> {
-    let manifest = new_store(alloc)?;
-    Ok(write_manifest(alloc, &manifest)?)
+/// Whether the configuration is the small one with this pick.
+fn is_small(config: &Config, pick: Pick) -> bool {
+    *config.fields() == Fields { pick, ..SMALL }
+}
+
+fn new_store_written(alloc: Global, rt: &impl Abort) -> Vec<u8> {
+    let manifest = new_store(alloc, rt);
+    write_manifest(alloc, &manifest).expect(rt, "a spelling")
 }
 
 #[test]
-fn a_new_store_has_71_bytes(rt: HostRuntime) -> Result<(), Fail> {
-    let alloc = rt.alloc();
-    assert_eq!(rt; new_store_written(alloc)?.as_slice(), NEW);
-    let read = read(alloc, NEW).ok().ok_or("a manifest")?;
-    assert!(rt; are_numbers(&read, 2, 0, 0, 3));
-    assert_eq!(rt; *read.config.fields(), *small(Pick::So)?.fields());
-    assert_eq!(rt; read.segments.items(), [1].as_slice());
+fn a_new_store_has_71_bytes(rt: HostRuntime) {
+    check_bytes(&rt, &new_store_written(rt.alloc(), &rt), NEW);
+    let manifest = read(rt.alloc(), NEW).expect(&rt, "a manifest");
+    assert!(rt; are_numbers(&manifest, 2, 0, 0, 3));
+    assert!(rt; is_small(&manifest.config, Pick::So));
+    assert!(rt; manifest.segments.items() == [1].as_slice());
     one_manifest();
-    Ok(())
+}
+
+fn rewritten(alloc: Global, rt: &impl Abort, bytes: &[u8]) -> Vec<u8> {
+    let manifest = read(alloc, bytes).expect(rt, "a manifest");
+    write_manifest(alloc, &manifest).expect(rt, "a spelling")
 }
 
 #[test]
-fn a_store_with_all_parts_is_written_as_it_was_read(rt: HostRuntime) -> Result<(), Fail> {
-    let alloc = rt.alloc();
-    let Ok(manifest) = read(alloc, FULL) else {
-        return Err(Fail::new("a manifest"));
-    };
-    let bytes = write_manifest(alloc, &manifest).ok().ok_or("a spelling")?;
-    assert_eq!(rt; bytes.as_slice(), FULL);
-    Ok(())
+fn a_store_with_all_parts_is_written_as_it_was_read(rt: HostRuntime) {
+    check_bytes(&rt, &rewritten(rt.alloc(), &rt, FULL), FULL);
 }
 
 /// An erase: its place, its time and its range.
@@ -118,21 +120,22 @@ fn are_files(files: &[Cited], wanted: &[File]) -> bool {
             .all(|(file, wanted)| is_file(file, wanted))
 }
 
+/// The certificate of `FULL`.
+const CERTIFICATE: LastCert = LastCert {
+    number: 3,
+    clock: 40,
+    before: 30,
+};
+
 #[test]
-fn all_parts_of_a_store_are_read(rt: HostRuntime) -> Result<(), Fail> {
-    let read = read(rt.alloc(), FULL).ok().ok_or("a manifest")?;
-    assert!(rt; are_numbers(&read, 9, 50, 20, 12));
-    assert_eq!(rt; *read.config.fields(), *small(Pick::Sd)?.fields());
-    let cert = LastCert {
-        number: 3,
-        clock: 40,
-        before: 30,
-    };
-    assert_eq!(rt; read.certificate, Some(cert));
-    assert!(rt; are_erases(read.erases.items(), ERASES_OF_FULL));
-    assert_eq!(rt; read.segments.items(), [8, 4].as_slice());
-    assert!(rt; are_files(read.files.items(), FILES_OF_FULL));
-    Ok(())
+fn all_parts_of_a_store_are_read(rt: HostRuntime) {
+    let manifest = read(rt.alloc(), FULL).expect(&rt, "a manifest");
+    assert!(rt; are_numbers(&manifest, 9, 50, 20, 12));
+    assert!(rt; is_small(&manifest.config, Pick::Sd));
+    assert!(rt; manifest.certificate == Some(CERTIFICATE));
+    assert!(rt; are_erases(manifest.erases.items(), ERASES_OF_FULL));
+    assert!(rt; manifest.segments.items() == [8, 4].as_slice());
+    assert!(rt; are_files(manifest.files.items(), FILES_OF_FULL));
 }
 
 /// A place, the byte that is put there, and why the manifest is then refused.
@@ -170,18 +173,24 @@ const CHANGES_OF_NEW: &[Change] = &[
     (70, 1, ManifestRefused::Short { at: 71 }),
 ];
 
-#[test]
-fn other_bytes_are_refused_at_their_field(rt: HostRuntime) -> Result<(), Fail> {
-    let alloc = rt.alloc();
-    for row in CHANGES_OF_NEW {
-        let (place, byte, why) = *row;
-        let bytes = changed(alloc, NEW, place, byte)?;
-        assert_eq!(rt; read(alloc, &bytes).err(), Some(why));
+/// The bytes have to be refused so.
+fn check_refused(alloc: Global, rt: &impl Abort, bytes: &[u8], why: ManifestRefused) {
+    let found = read(alloc, bytes).err();
+    assert!(rt; found == Some(why), "{found:?}");
+}
+
+fn check_changes(alloc: Global, rt: &impl Abort, bytes: &[u8], changes: &[Change]) {
+    for (place, byte, why) in changes {
+        let other = changed(alloc, rt, bytes, *place, *byte);
+        check_refused(alloc, rt, &other, *why);
     }
-    let wide = replaced(alloc, NEW, 21, &[4, 0, 64])?;
-    let too_many = ManifestRefused::Kind { at: 24 };
-    assert_eq!(rt; read(alloc, &wide).err(), Some(too_many));
-    Ok(())
+}
+
+#[test]
+fn other_bytes_are_refused_at_their_field(rt: HostRuntime) {
+    check_changes(rt.alloc(), &rt, NEW, CHANGES_OF_NEW);
+    let wide = replaced(rt.alloc(), &rt, NEW, 21, &[4, 0, 64]);
+    check_refused(rt.alloc(), &rt, &wide, ManifestRefused::Kind { at: 24 });
 }
 
 const CHANGES_OF_FULL: &[Change] = &[
@@ -218,13 +227,8 @@ const CHANGES_OF_FULL: &[Change] = &[
 ];
 
 #[test]
-fn a_part_is_refused_at_its_field(rt: HostRuntime) -> Result<(), Fail> {
-    for row in CHANGES_OF_FULL {
-        let (place, byte, why) = *row;
-        let bytes = changed(rt.alloc(), FULL, place, byte)?;
-        assert_eq!(rt; read(rt.alloc(), &bytes).err(), Some(why));
-    }
-    Ok(())
+fn a_part_is_refused_at_its_field(rt: HostRuntime) {
+    check_changes(rt.alloc(), &rt, FULL, CHANGES_OF_FULL);
 }
 
 /// How much of `FULL` is there, and the field that goes past its end.
@@ -270,26 +274,19 @@ const CUTS: &[(usize, u64)] = &[
 ];
 
 #[test]
-fn a_cut_manifest_is_short_at_its_field(rt: HostRuntime) -> Result<(), Fail> {
-    for row in CUTS {
-        let (len, at) = *row;
-        let why = ManifestRefused::Short { at };
-        assert_eq!(rt;
-            read(rt.alloc(), &cut(rt.alloc(), FULL, len)?).err(),
-            Some(why)
-        );
+fn a_cut_manifest_is_short_at_its_field(rt: HostRuntime) {
+    for (len, at) in CUTS {
+        let bytes = cut(&rt, FULL, *len);
+        check_refused(rt.alloc(), &rt, bytes, ManifestRefused::Short { at: *at });
     }
-    let long = extended(rt.alloc(), FULL, &[0])?;
+    let long = extended(rt.alloc(), &rt, FULL, &[0]);
     let why = ManifestRefused::Trailing { at: 265 };
-    assert_eq!(rt; read(rt.alloc(), &long).err(), Some(why));
-    Ok(())
+    check_refused(rt.alloc(), &rt, &long, why);
 }
 
 #[test]
-fn no_memory_is_taken_on_the_word_of_a_count(rt: HostRuntime) -> Result<(), Fail> {
-    let alloc = rt.alloc();
-    let most = extended(alloc, &cut(alloc, NEW, 67)?, &[0xff; 4])?;
+fn no_memory_is_taken_on_the_word_of_a_count(rt: HostRuntime) {
+    let most = extended(rt.alloc(), &rt, cut(&rt, NEW, 67), &[0xff; 4]);
     let why = ManifestRefused::Short { at: 71 };
-    assert_eq!(rt; read(alloc, &most).err(), Some(why));
-    Ok(())
+    check_refused(rt.alloc(), &rt, &most, why);
 }

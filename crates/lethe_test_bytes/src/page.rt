@@ -2,11 +2,11 @@
 ghost use Rattle.std.specs.Prelude.{IfOk};
 ghost use Rattle.lethe_page.specs.Pages.{HasSpelling};
 
-use crate::common::{changed, cut, extended, replaced};
+use crate::common::{changed, check_bytes, cut, extended, replaced};
 use lethe_base::{Body, Entry};
 use lethe_page::{Class, PageRefused, one_page, read_page, write_page};
 use std::alloc::Global;
-use std::test::Fail;
+use std::process::Abort;
 
 /// The put of key `a`, delete key 5, value `x` at place 1.
 const PUT: &[u8] = b"LP\x01\x01\0\0\0\x01\x01\0\0\0\0\0\0\0\x01\0\x01a\0\0\0\0\0\0\0\x05\0\x01x";
@@ -23,19 +23,9 @@ fn read(alloc: Global, bytes: &[u8]) -> Result<(Class, Vec<Entry>), PageRefused>
 }
 
 /// The bytes of a page, written again as they were read.
-fn rewritten(alloc: Global, bytes: &[u8]) -> Result<Vec<u8>, Fail> {
-    let Ok((class, entries)) = read(alloc, bytes) else {
-        return Err(Fail::new("a page"));
-    };
-    Ok(write_page(alloc, class, &entries)?)
-}
-
-/// The class of a page, the number of its entries, and the first of them.
-fn first_of(alloc: Global, bytes: &[u8]) -> Result<(Class, usize, Entry), Fail> {
-    let (class, entries) = read(alloc, bytes).ok().ok_or("a page")?;
-    let count = entries.len();
-    let first = entries.into_iter().next().ok_or("an entry")?;
-    Ok((class, count, first))
+fn rewritten(alloc: Global, rt: &impl Abort, bytes: &[u8]) -> Vec<u8> {
+    let (class, entries) = read(alloc, bytes).expect(rt, "a page");
+    write_page(alloc, class, &entries).expect(rt, "a spelling")
 }
 
 /// Whether the body is a put of the delete key and the value.
@@ -46,20 +36,22 @@ fn is_put(body: &Body, wanted: u64, bytes: &[u8]) -> bool {
     }
 }
 
+/// Whether the entry is that of `PUT`.
+fn is_put_of_a(entry: &Entry) -> bool {
+    entry.seq == 1
+        && entry.since.is_none()
+        && entry.key.bytes() == b"a".as_slice()
+        && is_put(&entry.body, 5, b"x")
+}
+
 #[test]
-fn a_page_is_written_as_it_was_read(rt: HostRuntime) -> Result<(), Fail> {
-    let alloc = rt.alloc();
-    assert_eq!(rt; rewritten(alloc, PUT)?.as_slice(), PUT);
-    assert_eq!(rt; rewritten(alloc, TOMBS)?.as_slice(), TOMBS);
-    let (class, count, entry) = first_of(alloc, PUT)?;
-    assert_eq!(rt; class, Class::Puts);
-    assert_eq!(rt; count, 1);
-    assert_eq!(rt; entry.seq, 1);
-    assert_eq!(rt; entry.since, None);
-    assert_eq!(rt; entry.key.bytes(), b"a".as_slice());
-    assert!(rt; is_put(&entry.body, 5, b"x"));
+fn a_page_is_written_as_it_was_read(rt: HostRuntime) {
+    check_bytes(&rt, &rewritten(rt.alloc(), &rt, PUT), PUT);
+    check_bytes(&rt, &rewritten(rt.alloc(), &rt, TOMBS), TOMBS);
+    let (class, entries) = read(rt.alloc(), PUT).expect(&rt, "a page");
+    assert!(rt; class == Class::Puts);
+    assert!(rt; entries.len() == 1 && entries.iter().all(is_put_of_a));
     one_page();
-    Ok(())
 }
 
 /// A place, the byte that is put there, and why the page is then refused.
@@ -91,23 +83,25 @@ const CHANGES_OF_TOMBS: &[Change] = &[
     (47, b'A', PageRefused::Order { at: 46 }),
 ];
 
+/// The bytes have to be refused so.
+fn check_refused(alloc: Global, rt: &impl Abort, bytes: &[u8], why: PageRefused) {
+    let found = read(alloc, bytes).err();
+    assert!(rt; found == Some(why), "{found:?}");
+}
+
+fn check_changes(alloc: Global, rt: &impl Abort, bytes: &[u8], changes: &[Change]) {
+    for (place, byte, why) in changes {
+        let other = changed(alloc, rt, bytes, *place, *byte);
+        check_refused(alloc, rt, &other, *why);
+    }
+}
+
 #[test]
-fn other_bytes_are_refused_at_their_field(rt: HostRuntime) -> Result<(), Fail> {
-    let alloc = rt.alloc();
-    for row in CHANGES_OF_PUT {
-        let (place, byte, why) = *row;
-        let bytes = changed(alloc, PUT, place, byte)?;
-        assert_eq!(rt; read(alloc, &bytes).err(), Some(why));
-    }
-    for row in CHANGES_OF_TOMBS {
-        let (place, byte, why) = *row;
-        let bytes = changed(alloc, TOMBS, place, byte)?;
-        assert_eq!(rt; read(alloc, &bytes).err(), Some(why));
-    }
-    let many = replaced(alloc, PUT, 4, &[255; 4])?;
-    let why = PageRefused::Short { at: 31 };
-    assert_eq!(rt; read(alloc, &many).err(), Some(why));
-    Ok(())
+fn other_bytes_are_refused_at_their_field(rt: HostRuntime) {
+    check_changes(rt.alloc(), &rt, PUT, CHANGES_OF_PUT);
+    check_changes(rt.alloc(), &rt, TOMBS, CHANGES_OF_TOMBS);
+    let many = replaced(rt.alloc(), &rt, PUT, 4, &[255; 4]);
+    check_refused(rt.alloc(), &rt, &many, PageRefused::Short { at: 31 });
 }
 
 /// How much of `PUT` is there, and the field that goes past its end.
@@ -143,19 +137,20 @@ const LONG: &[(u8, &[u8], PageRefused)] = &[
     ),
 ];
 
+/// The bytes of `PUT` with this count and others behind them.
+fn long_page(alloc: Global, rt: &impl Abort, count: u8, behind: &[u8]) -> Vec<u8> {
+    let counted = changed(alloc, rt, PUT, 7, count);
+    extended(alloc, rt, &counted, behind)
+}
+
 #[test]
-fn a_cut_page_is_short_at_its_field(rt: HostRuntime) -> Result<(), Fail> {
-    let alloc = rt.alloc();
-    for row in CUTS {
-        let (len, at) = *row;
-        let why = PageRefused::Short { at };
-        assert_eq!(rt; read(alloc, &cut(alloc, PUT, len)?).err(), Some(why));
+fn a_cut_page_is_short_at_its_field(rt: HostRuntime) {
+    for (len, at) in CUTS {
+        let bytes = cut(&rt, PUT, *len);
+        check_refused(rt.alloc(), &rt, bytes, PageRefused::Short { at: *at });
     }
-    for row in LONG {
-        let (count, behind, why) = *row;
-        let changed = changed(alloc, PUT, 7, count)?;
-        let long = extended(alloc, &changed, behind)?;
-        assert_eq!(rt; read(alloc, &long).err(), Some(why));
+    for (count, behind, why) in LONG {
+        let long = long_page(rt.alloc(), &rt, *count, behind);
+        check_refused(rt.alloc(), &rt, &long, *why);
     }
-    Ok(())
 }

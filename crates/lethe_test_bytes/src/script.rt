@@ -3,72 +3,67 @@
 use crate::common::extended;
 use lethe_script::{Act, Order, Script, ScriptRefused, read_script};
 use std::alloc::Global;
+use std::process::Abort;
 use std::str;
-use std::test::Fail;
 
 /// The orders with the numbers of their lines, each ended by `;`.
-fn shown(alloc: Global, script: &Script) -> Result<String, Fail> {
+fn shown(alloc: Global, rt: &impl Abort, script: &Script) -> String {
     let mut text = String::new(alloc);
     for phase in script.phases.items() {
         for order in phase.items() {
-            text.push_str(&order_shown(alloc, order)?)?;
+            push_order(alloc, rt, &mut text, order);
         }
     }
-    Ok(text)
+    text
 }
 
-fn order_shown(alloc: Global, order: &Order) -> Result<String, Fail> {
-    let act = act_shown(alloc, &order.act)?;
-    Ok(format!(in alloc; "{}:{} {act};", order.line, order.caller)?)
+fn push_order(alloc: Global, rt: &impl Abort, text: &mut String, order: &Order) {
+    let act = act_shown(alloc, rt, &order.act);
+    write!(text, "{}:{} {act};", order.line, order.caller).expect(rt, "memory");
 }
 
-fn text_of(bytes: &[u8]) -> Result<&str, Fail> {
-    Ok(str::from_utf8(bytes)?)
+fn text_of<'a>(rt: &impl Abort, bytes: &'a [u8]) -> &'a str {
+    str::from_utf8(bytes).expect(rt, "a text")
 }
 
-fn act_shown(alloc: Global, act: &Act) -> Result<String, Fail> {
-    match act {
+fn act_shown(alloc: Global, rt: &impl Abort, act: &Act) -> String {
+    let shown = match act {
         Act::Put { key, dkey, value } => {
-            let key = text_of(key.bytes())?;
-            let value = text_of(value.bytes())?;
-            Ok(format!(in alloc; "put {key} {dkey} {value}")?)
+            let key = text_of(rt, key.bytes());
+            let value = text_of(rt, value.bytes());
+            format!(in alloc; "put {key} {dkey} {value}")
         }
-        Act::Get { key } => {
-            let key = text_of(key.bytes())?;
-            Ok(format!(in alloc; "get {key}")?)
-        }
+        Act::Get { key } => format!(in alloc; "get {}", text_of(rt, key.bytes())),
         Act::Scan { lo, hi } => {
-            let lo = text_of(lo.bytes())?;
-            let hi = text_of(hi.bytes())?;
-            Ok(format!(in alloc; "scan {lo} {hi}")?)
+            let lo = text_of(rt, lo.bytes());
+            let hi = text_of(rt, hi.bytes());
+            format!(in alloc; "scan {lo} {hi}")
         }
-        Act::Delete { key } => {
-            let key = text_of(key.bytes())?;
-            Ok(format!(in alloc; "del {key}")?)
-        }
-        Act::Erase { range } => Ok(format!(in alloc; "erase {} {}", range.lo(), range.hi())?),
-        Act::Stat => Ok(format!(in alloc; "stat")?),
-        Act::Tick { to } => Ok(format!(in alloc; "tick {}", to.get())?),
-        Act::Pin { slot } => Ok(format!(in alloc; "pin {}", slot.get())?),
+        Act::Delete { key } => format!(in alloc; "del {}", text_of(rt, key.bytes())),
+        Act::Erase { range } => format!(in alloc; "erase {} {}", range.lo(), range.hi()),
+        Act::Stat => format!(in alloc; "stat"),
+        Act::Tick { to } => format!(in alloc; "tick {}", to.get()),
+        Act::Pin { slot } => format!(in alloc; "pin {}", slot.get()),
         Act::PinGet { slot, key } => {
-            let key = text_of(key.bytes())?;
-            Ok(format!(in alloc; "pget {} {key}", slot.get())?)
+            let key = text_of(rt, key.bytes());
+            format!(in alloc; "pget {} {key}", slot.get())
         }
         Act::PinScan { slot, lo, hi } => {
-            let lo = text_of(lo.bytes())?;
-            let hi = text_of(hi.bytes())?;
-            Ok(format!(in alloc; "pscan {} {lo} {hi}", slot.get())?)
+            let lo = text_of(rt, lo.bytes());
+            let hi = text_of(rt, hi.bytes());
+            format!(in alloc; "pscan {} {lo} {hi}", slot.get())
         }
-        Act::Unpin { slot } => Ok(format!(in alloc; "unpin {}", slot.get())?),
-    }
+        Act::Unpin { slot } => format!(in alloc; "unpin {}", slot.get()),
+    };
+    shown.expect(rt, "memory")
 }
 
-/// The number of orders of a script.
-fn orders_of(alloc: Global, bytes: &[u8]) -> Result<usize, Fail> {
-    let script = read_script(alloc, bytes)?;
+/// The number of orders of a script's last phase.
+fn orders_of(alloc: Global, rt: &impl Abort, bytes: &[u8]) -> usize {
+    let script = read_script(alloc, bytes).expect(rt, "a script");
     match script.phases.items().last() {
-        Some(phase) => Ok(phase.items().len()),
-        None => Ok(0),
+        Some(phase) => phase.items().len(),
+        None => 0,
     }
 }
 
@@ -122,16 +117,17 @@ const READ: &[(&[u8], &[u8])] = &[
     ),
 ];
 
+fn check_shown(alloc: Global, rt: &impl Abort, bytes: &[u8], text: &[u8]) {
+    let script = read_script(alloc, bytes).expect(rt, "a script");
+    let found = shown(alloc, rt, &script);
+    assert!(rt; found.as_bytes() == text, "{found}");
+}
+
 #[test]
-fn scripts_are_read(rt: HostRuntime) -> Result<(), Fail> {
-    let alloc = rt.alloc();
-    for row in READ {
-        let (bytes, text) = *row;
-        let script = read_script(alloc, bytes)?;
-        let found = shown(alloc, &script)?;
-        assert!(rt; found.as_bytes() == text, "{found}");
+fn scripts_are_read(rt: HostRuntime) {
+    for (bytes, text) in READ {
+        check_shown(rt.alloc(), &rt, bytes, text);
     }
-    Ok(())
 }
 
 /// Other bytes, the number of their first bad line, and the word for what is wrong with it.
@@ -253,44 +249,52 @@ const LIMITS: &[(&[u8], u8, usize, &[u8], u64, &[u8])] = &[
 
 fn filled(
     alloc: Global,
+    rt: &impl Abort,
     head: &[u8],
     filler: u8,
     count: usize,
     tail: &[u8],
-) -> Result<Vec<u8>, Fail> {
-    let fill = vec![in alloc; filler; count]?;
-    extended(alloc, &extended(alloc, head, &fill)?, tail)
+) -> Vec<u8> {
+    let fill = vec![in alloc; filler; count].expect(rt, "memory");
+    let begin = extended(alloc, rt, head, &fill);
+    extended(alloc, rt, &begin, tail)
+}
+
+/// Whether the bytes are refused for this line and with this word, or have one order where the line is 0.
+fn meets_limit(alloc: Global, rt: &impl Abort, bytes: &[u8], line: u64, word: &[u8]) -> bool {
+    if line == 0 {
+        orders_of(alloc, rt, bytes) == 1
+    } else {
+        is_refused(alloc, bytes, line, word)
+    }
 }
 
 #[test]
-fn limits_are_met_to_the_byte(rt: HostRuntime) -> Result<(), Fail> {
-    let alloc = rt.alloc();
-    for row in LIMITS {
-        let (head, filler, count, tail, line, word) = *row;
-        let bytes = filled(alloc, head, filler, count, tail)?;
-        let found = if line == 0 {
-            orders_of(alloc, &bytes)? == 1
-        } else {
-            is_refused(alloc, &bytes, line, word)
-        };
-        assert!(rt; found, "line {line} after {count}");
+fn limits_are_met_to_the_byte(rt: HostRuntime) {
+    for (head, filler, count, tail, line, word) in LIMITS {
+        let bytes = filled(rt.alloc(), &rt, head, *filler, *count, tail);
+        assert!(rt;
+            meets_limit(rt.alloc(), &rt, &bytes, *line, word),
+            "line {line} after {count}"
+        );
     }
-    Ok(())
 }
 
-/// Each order of the script is a put of this key and this value.
-fn is_put(script: &Script, wanted_key: &[u8], wanted_value: &[u8]) -> bool {
+fn is_put(order: &Order, wanted_key: &[u8], wanted_value: &[u8]) -> bool {
+    match &order.act {
+        Act::Put { key, value, .. } => key.bytes() == wanted_key && value.bytes() == wanted_value,
+        _ => false,
+    }
+}
+
+/// Each order of the script has to be a put of this key and this value.
+fn check_puts(alloc: Global, rt: &impl Abort, bytes: &[u8], key: &[u8], value: &[u8]) {
+    let script = read_script(alloc, bytes).expect(rt, "a script");
     for phase in script.phases.items() {
         for order in phase.items() {
-            let Act::Put { key, value, .. } = &order.act else {
-                return false;
-            };
-            if key.bytes() != wanted_key || value.bytes() != wanted_value {
-                return false;
-            }
+            assert!(rt; is_put(order, key, value), "{bytes:?}");
         }
     }
-    true
 }
 
 /// A script of one put, its key and its value.
@@ -303,12 +307,8 @@ const DIGITS: &[(&[u8], &[u8], &[u8])] = &[
 ];
 
 #[test]
-fn digits_stand_for_bytes(rt: HostRuntime) -> Result<(), Fail> {
-    let alloc = rt.alloc();
-    for row in DIGITS {
-        let (bytes, wanted_key, wanted_value) = *row;
-        let script = read_script(alloc, bytes)?;
-        assert!(rt; is_put(&script, wanted_key, wanted_value), "{bytes:?}");
+fn digits_stand_for_bytes(rt: HostRuntime) {
+    for (bytes, key, value) in DIGITS {
+        check_puts(rt.alloc(), &rt, bytes, key, value);
     }
-    Ok(())
 }

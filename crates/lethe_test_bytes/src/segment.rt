@@ -1,61 +1,66 @@
 //! Tests of the segments of the journal.
-ghost use Rattle.std.specs.Prelude.{IfOk};
 ghost use Rattle.lethe_base.specs.Erases.{IsErase};
+ghost use Rattle.lethe_segment.specs.Records.{RecordHasSpelling};
 
-use crate::common::{changed, cut, key_of};
+use crate::common::{changed, check_bytes, cut, key_of};
 use lethe_base::{Body, Entry, Pending, Range, Value};
 use lethe_segment::{
     Record, SegmentRefused, ascending_places, new_segment, one_record, one_segment, replay,
     segment_number, spelling_holds, write_record, write_segment,
 };
 use std::alloc::Global;
-use std::test::Fail;
+use std::process::Abort;
 
 /// Segment 3 with the put of key `a`, delete key 5, value `x` at place 1.
 const SEGMENT: &[u8] =
     b"LS\x01\0\0\0\0\0\0\0\x03\x01\x01\0\0\0\0\0\0\0\x01\0\x01a\0\0\0\0\0\0\0\x05\0\x01x\0";
 
+fn written(alloc: Global, rt: &impl Abort, record: &Record) -> Vec<u8>
+    requires { RecordHasSpelling record.now }
+{
+    write_record(alloc, record).expect(rt, "a spelling")
+}
+
 /// The spelling of the put that `SEGMENT` has.
-fn put(alloc: Global) -> Result<Vec<u8>, Fail> {
-    let value = Value::new(b"x".to_vec(alloc)?)?;
+fn put(alloc: Global, rt: &impl Abort) -> Vec<u8> {
+    let bytes = b"x".to_vec(alloc).expect(rt, "memory");
+    let value = Value::new(bytes).expect(rt, "a value");
+    let key = key_of(alloc, rt, "a");
     let record = Record::Entry(Entry {
         seq: 1,
-        key: key_of(alloc, "a")?,
+        key,
         body: Body::Put { dkey: 5, value },
         since: None,
     });
-    Ok(write_record(alloc, &record)?)
+    written(alloc, rt, &record)
 }
 
 /// The spelling of the tombstone of key `a` at place 2 with time 0.
-fn tomb(alloc: Global) -> Result<Vec<u8>, Fail> {
+fn tomb(alloc: Global, rt: &impl Abort) -> Vec<u8> {
     let record = Record::Entry(Entry {
         seq: 2,
-        key: key_of(alloc, "a")?,
+        key: key_of(alloc, rt, "a"),
         body: Body::Tomb,
         since: Some(0),
     });
-    Ok(write_record(alloc, &record)?)
+    written(alloc, rt, &record)
 }
 
 /// The spelling of the blind delete of place 7.
-fn blind(alloc: Global) -> Result<Vec<u8>, Fail> {
-    Ok(write_record(alloc, &Record::Blind { seq: 7 })?)
+fn blind(alloc: Global, rt: &impl Abort) -> Vec<u8> {
+    written(alloc, rt, &Record::Blind { seq: 7 })
 }
 
 #[test]
-fn records_are_spelled_as_the_format_says(rt: HostRuntime) -> Result<(), Fail> {
-    let alloc = rt.alloc();
-    assert_eq!(rt; put(alloc)?.as_slice(), &SEGMENT[12..35]);
+fn records_are_spelled_as_the_format_says(rt: HostRuntime) {
+    check_bytes(&rt, &put(rt.alloc(), &rt), &SEGMENT[12..35]);
     let spelling = b"\x02\0\0\0\0\0\0\0\x02\x01\0\0\0\0\0\0\0\0\x01a";
-    assert_eq!(rt; tomb(alloc)?.as_slice(), spelling.as_slice());
+    check_bytes(&rt, &tomb(rt.alloc(), &rt), spelling);
     let spelling = b"\x03\0\0\0\0\0\0\0\x07";
-    assert_eq!(rt; blind(alloc)?.as_slice(), spelling.as_slice());
-    let empty = b"LS\x01\0\0\0\0\0\0\0\x03\0";
-    assert_eq!(rt; new_segment(3).as_slice(), empty.as_slice());
-    assert_eq!(rt; segment_number(SEGMENT), Some(3));
-    assert_eq!(rt; segment_number(&SEGMENT[..10]), None);
-    Ok(())
+    check_bytes(&rt, &blind(rt.alloc(), &rt), spelling);
+    check_bytes(&rt, &new_segment(3), b"LS\x01\0\0\0\0\0\0\0\x03\0");
+    assert!(rt; segment_number(SEGMENT) == Some(3));
+    assert!(rt; segment_number(&SEGMENT[..10]).is_none());
 }
 
 /// Segment 3 with the blind deletes of places 2 and 9.
@@ -88,19 +93,18 @@ const REPLAYED: &[(&[u8], usize, &[u64])] = &[
     (OTHER, 22, &[]),
 ];
 
+/// Records of these places have to be replayed.
+fn check_places(alloc: Global, rt: &impl Abort, bytes: &[u8], wanted: &[u64]) {
+    let found = places(alloc, bytes).expect(rt, "records");
+    assert!(rt; found.as_slice() == wanted, "{found:?}");
+}
+
 #[test]
-fn records_are_replayed_up_to_a_gate_that_is_not_open(rt: HostRuntime) -> Result<(), Fail> {
-    let alloc = rt.alloc();
-    for row in REPLAYED {
-        let (bytes, len, wanted) = *row;
-        let found = places(alloc, &cut(alloc, bytes, len)?)
-            .ok()
-            .ok_or("records")?;
-        assert_eq!(rt; found.as_slice(), wanted);
+fn records_are_replayed_up_to_a_gate_that_is_not_open(rt: HostRuntime) {
+    for (bytes, len, wanted) in REPLAYED {
+        check_places(rt.alloc(), &rt, cut(&rt, bytes, *len), wanted);
     }
-    let found = places(alloc, &new_segment(8)).ok().ok_or("records")?;
-    assert!(rt; found.is_empty());
-    Ok(())
+    check_places(rt.alloc(), &rt, &new_segment(8), &[]);
 }
 
 /// Bytes that are no segment, and why.
@@ -153,14 +157,19 @@ const REFUSED: &[(&[u8], SegmentRefused)] = &[
     ),
 ];
 
+/// The bytes have to be refused so.
+fn check_refused(alloc: Global, rt: &impl Abort, bytes: &[u8], why: SegmentRefused) {
+    let found = places(alloc, bytes).err();
+    assert!(rt; found == Some(why), "{found:?}");
+}
+
 #[test]
 fn other_bytes_are_refused_at_their_place(rt: HostRuntime) {
-    for row in REFUSED {
-        let (bytes, why) = *row;
-        assert_eq!(rt; places(rt.alloc(), bytes).err(), Some(why));
+    for (bytes, why) in REFUSED {
+        check_refused(rt.alloc(), &rt, bytes, *why);
     }
     let why = SegmentRefused::Record { at: 12 };
-    assert_eq!(rt; places(rt.alloc(), &SEGMENT[..34]).err(), Some(why));
+    check_refused(rt.alloc(), &rt, &SEGMENT[..34], why);
 }
 
 /// Segment 3 with the put of `SEGMENT`, the erase of place 4 at time 10 of the delete keys 5 up to 9, and the blind
@@ -169,38 +178,51 @@ const MIXED: &[u8] =
     b"LS\x01\0\0\0\0\0\0\0\x03\x01\x01\0\0\0\0\0\0\0\x01\0\x01a\0\0\0\0\0\0\0\x05\0\x01x\x01\x04\0\0\0\0\0\0\0\x04\0\0\0\0\0\0\0\x0a\0\0\0\0\0\0\0\x05\0\0\0\0\0\0\0\x09\x01\x03\0\0\0\0\0\0\0\x07\0";
 
 /// The erase that `MIXED` has.
-fn erase() -> Result<Pending, Fail>
-    ensures { IfOk result IsErase }
+fn erase(rt: &impl Abort) -> Pending
+    ensures { IsErase result }
 {
-    Ok(Pending {
+    Pending {
         seq: 4,
         time: 10,
-        range: Range::new(5, 9).ok_or("a range")?,
-    })
+        range: Range::new(5, 9).expect(rt, "a range"),
+    }
 }
 
 /// The segment that the bytes begin with, written again as it was read.
-fn rewritten(alloc: Global, bytes: &[u8]) -> Result<Vec<u8>, Fail> {
-    let number = segment_number(bytes).ok_or("a number")?;
-    let records = replay(alloc, bytes).ok().ok_or("records")?;
-    Ok(write_segment(alloc, number, &records)?)
+fn rewritten(alloc: Global, rt: &impl Abort, bytes: &[u8]) -> Vec<u8> {
+    let number = segment_number(bytes).expect(rt, "a number");
+    let records = replay(alloc, bytes).expect(rt, "records");
+    write_segment(alloc, number, &records).expect(rt, "a spelling")
+}
+
+fn check_rewritten(alloc: Global, rt: &impl Abort, bytes: &[u8]) {
+    check_bytes(rt, &rewritten(alloc, rt, bytes), bytes);
+}
+
+/// The second record has to be this erase.
+fn check_second(rt: &impl Abort, records: &[Record], erase: &Pending) {
+    let is_second = match records {
+        [_, Record::Erase(found), ..] => *found == *erase,
+        _ => false,
+    };
+    assert!(rt; is_second);
+}
+
+fn check_erase(alloc: Global, rt: &impl Abort, erase: Pending)
+    requires { IsErase erase }
+{
+    let spelling = written(alloc, rt, &Record::Erase(erase));
+    check_bytes(rt, &spelling, &MIXED[36..69]);
 }
 
 #[test]
-fn an_erase_is_written_and_replayed_between_others(rt: HostRuntime) -> Result<(), Fail> {
-    let alloc = rt.alloc();
-    let erase = erase()?;
-    let spelling = write_record(alloc, &Record::Erase(erase))?;
-    assert_eq!(rt; put(alloc)?.as_slice(), &MIXED[12..35]);
-    assert_eq!(rt; spelling.as_slice(), &MIXED[36..69]);
-    assert_eq!(rt; blind(alloc)?.as_slice(), &MIXED[70..79]);
-    assert_eq!(rt; rewritten(alloc, MIXED)?.as_slice(), MIXED);
-    let found = replay(alloc, MIXED).ok().ok_or("records")?;
-    let Some(Record::Erase(found)) = found.get(1) else {
-        return Err(Fail::new("an erase"));
-    };
-    assert_eq!(rt; *found, erase);
-    Ok(())
+fn an_erase_is_written_and_replayed_between_others(rt: HostRuntime) {
+    check_bytes(&rt, &put(rt.alloc(), &rt), &MIXED[12..35]);
+    check_erase(rt.alloc(), &rt, erase(&rt));
+    check_bytes(&rt, &blind(rt.alloc(), &rt), &MIXED[70..79]);
+    check_rewritten(rt.alloc(), &rt, MIXED);
+    let records = replay(rt.alloc(), MIXED).expect(&rt, "records");
+    check_second(&rt, &records, &erase(&rt));
 }
 
 /// The places of the records that are replayed, or why none are.
@@ -230,40 +252,53 @@ fn of_cut(len: usize) -> Replayed {
 }
 
 #[test]
-fn a_cut_segment_is_refused_in_a_record_and_has_those_before_a_gate(
-    rt: HostRuntime,
-) -> Result<(), Fail> {
-    let alloc = rt.alloc();
+fn a_cut_segment_is_refused_in_a_record_and_has_those_before_a_gate(rt: HostRuntime) {
     for len in 0..=MIXED.len() {
-        let bytes = cut(alloc, MIXED, len)?;
-        assert!(rt; is_replayed(alloc, &bytes, of_cut(len)), "{len} bytes");
+        let bytes = cut(&rt, MIXED, len);
+        assert!(rt;
+            is_replayed(rt.alloc(), bytes, of_cut(len)),
+            "{len} bytes"
+        );
     }
-    Ok(())
 }
 
-/// How `MIXED` is replayed with 0xff in this place, which stands in the head, a gate, a record's kind, place or other field.
+/// The first and the last of places of `MIXED`, and how it is replayed with 0xff in one of them: in the head, a gate, a
+/// record's kind, place or other field. In the places that are left out such a byte changes no place of a record.
+const FULL_BYTES: &[(usize, usize, Replayed)] = &[
+    (0, 0, Err(SegmentRefused::Header { at: 0 })),
+    (1, 1, Err(SegmentRefused::Header { at: 1 })),
+    (2, 2, Err(SegmentRefused::Header { at: 2 })),
+    (11, 11, Ok(&[])),
+    // Kind, greatest byte of the place, mark, and the lengths of key and value.
+    (12, 13, Err(SegmentRefused::Record { at: 12 })),
+    (21, 22, Err(SegmentRefused::Record { at: 12 })),
+    (32, 33, Err(SegmentRefused::Record { at: 12 })),
+    (14, 20, Err(SegmentRefused::Order { at: 36 })),
+    (35, 35, Ok(&[1])),
+    // Kind, greatest byte of place and time, and the range's lower end.
+    (36, 37, Err(SegmentRefused::Record { at: 36 })),
+    (45, 45, Err(SegmentRefused::Record { at: 36 })),
+    (53, 60, Err(SegmentRefused::Record { at: 36 })),
+    (38, 44, Err(SegmentRefused::Order { at: 70 })),
+    (69, 69, Ok(&[1, 4])),
+    (70, 71, Err(SegmentRefused::Record { at: 70 })),
+    (72, 72, Ok(&[1, 4, 0x00ff_0000_0000_0007])),
+    (73, 73, Ok(&[1, 4, 0xff00_0000_0007])),
+    (74, 74, Ok(&[1, 4, 0x00ff_0000_0007])),
+    (75, 75, Ok(&[1, 4, 0xff00_0007])),
+    (76, 76, Ok(&[1, 4, 0x00ff_0007])),
+    (77, 77, Ok(&[1, 4, 0xff07])),
+    (78, 78, Ok(&[1, 4, 0xff])),
+];
+
+/// How `MIXED` is replayed with 0xff in this place.
 fn of_full_byte(place: usize) -> Replayed {
-    match place {
-        0..=2 => Err(SegmentRefused::Header { at: place as u64 }),
-        11 => Ok(&[]),
-        // Kind, greatest byte of the place, mark, and the lengths of key and value.
-        12 | 13 | 21 | 22 | 32 | 33 => Err(SegmentRefused::Record { at: 12 }),
-        14..=20 => Err(SegmentRefused::Order { at: 36 }),
-        35 => Ok(&[1]),
-        // Kind, greatest byte of place and time, and the range's lower end.
-        36 | 37 | 45 | 53..=60 => Err(SegmentRefused::Record { at: 36 }),
-        38..=44 => Err(SegmentRefused::Order { at: 70 }),
-        69 => Ok(&[1, 4]),
-        70 | 71 => Err(SegmentRefused::Record { at: 70 }),
-        72 => Ok(&[1, 4, 0x00ff_0000_0000_0007]),
-        73 => Ok(&[1, 4, 0xff00_0000_0007]),
-        74 => Ok(&[1, 4, 0x00ff_0000_0007]),
-        75 => Ok(&[1, 4, 0xff00_0007]),
-        76 => Ok(&[1, 4, 0x00ff_0007]),
-        77 => Ok(&[1, 4, 0xff07]),
-        78 => Ok(&[1, 4, 0xff]),
-        _ => Ok(&[1, 4, 7]),
+    for (first, last, told) in FULL_BYTES {
+        if *first <= place && place <= *last {
+            return *told;
+        }
     }
+    Ok(&[1, 4, 7])
 }
 
 /// A place of `MIXED`, the byte that is put there, and how the segment is then replayed.
@@ -296,29 +331,31 @@ const CHANGES: &[(usize, u8, Replayed)] = &[
     (78, 5, Ok(&[1, 4, 5])),
 ];
 
+fn check_changed(alloc: Global, rt: &impl Abort, place: usize, byte: u8, wanted: Replayed) {
+    let bytes = changed(alloc, rt, MIXED, place, byte);
+    assert!(rt;
+        is_replayed(alloc, &bytes, wanted),
+        "byte {place} is {byte}"
+    );
+}
+
+/// With 0xff in this place all of `MIXED` is written as it was read, but for a gate that isn't open.
+fn check_full_byte(alloc: Global, rt: &impl Abort, place: usize) {
+    let wanted = of_full_byte(place);
+    check_changed(alloc, rt, place, 0xff, wanted);
+    if matches!(wanted, Ok([_, _, _])) && place != 79 {
+        check_rewritten(alloc, rt, &changed(alloc, rt, MIXED, place, 0xff));
+    }
+}
+
 #[test]
-fn a_changed_segment_is_refused_in_its_record_or_has_what_its_bytes_say(
-    rt: HostRuntime,
-) -> Result<(), Fail> {
-    let alloc = rt.alloc();
+fn a_changed_segment_is_refused_in_its_record_or_has_what_its_bytes_say(rt: HostRuntime) {
     for place in 0..MIXED.len() {
-        let bytes = changed(alloc, MIXED, place, 0xff)?;
-        let wanted = of_full_byte(place);
-        assert!(rt; is_replayed(alloc, &bytes, wanted), "byte {place}");
-        // All of it but a gate that isn't open.
-        if matches!(wanted, Ok([_, _, _])) && place != 79 {
-            assert_eq!(rt; rewritten(alloc, &bytes)?, bytes, "byte {place}");
-        }
+        check_full_byte(rt.alloc(), &rt, place);
     }
-    for row in CHANGES {
-        let (place, byte, wanted) = *row;
-        let bytes = changed(alloc, MIXED, place, byte)?;
-        assert!(rt;
-            is_replayed(alloc, &bytes, wanted),
-            "byte {place} is {byte}"
-        );
+    for (place, byte, wanted) in CHANGES {
+        check_changed(rt.alloc(), &rt, *place, *byte, *wanted);
     }
-    Ok(())
 }
 
 #[test]

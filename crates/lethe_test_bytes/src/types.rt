@@ -6,84 +6,95 @@ use lethe_base::{
     ValueRefused,
 };
 use std::alloc::Global;
-use std::test::Fail;
+use std::process::Abort;
 
 /// Why so many bytes are no key, if they are none.
-fn key_refusal(alloc: Global, len: usize) -> Result<Option<KeyRefused>, Fail> {
-    Ok(Key::new(vec![in alloc; 7; len]?).err())
+fn key_refusal(alloc: Global, rt: &impl Abort, len: usize) -> Option<KeyRefused> {
+    let bytes = vec![in alloc; 7; len].expect(rt, "memory");
+    Key::new(bytes).err()
 }
 
 /// Why so many bytes are no value, if they are none.
-fn value_refusal(alloc: Global, len: usize) -> Result<Option<ValueRefused>, Fail> {
-    Ok(Value::new(vec![in alloc; 7; len]?).err())
+fn value_refusal(alloc: Global, rt: &impl Abort, len: usize) -> Option<ValueRefused> {
+    let bytes = vec![in alloc; 7; len].expect(rt, "memory");
+    Value::new(bytes).err()
 }
 
 /// A copy of the put of key `a` and delete key 5 at place 1, with time 3.
-fn copy_of_put(alloc: Global) -> Result<Entry, Fail> {
+fn copy_of_put(alloc: Global, rt: &impl Abort) -> Entry {
+    let value = Value::new(Vec::new(alloc)).expect(rt, "a value");
     let entry = Entry {
         seq: 1,
-        key: key_of(alloc, "a")?,
-        body: Body::Put {
-            dkey: 5,
-            value: Value::new(Vec::new(alloc))?,
-        },
+        key: key_of(alloc, rt, "a"),
+        body: Body::Put { dkey: 5, value },
         since: Some(3),
     };
-    Ok(entry.copy()?)
+    entry.copy().expect(rt, "memory")
 }
 
-#[test]
-fn types_of_the_base_keep_what_they_are_made_of(rt: HostRuntime) -> Result<(), Fail> {
-    let alloc = rt.alloc();
-    let key = key_of(alloc, "a")?;
-    let other = key_of(alloc, "ab")?;
-    assert_eq!(rt; key.copy()?.bytes(), b"a".as_slice());
+fn check_keys(alloc: Global, rt: &impl Abort) {
+    let key = key_of(alloc, rt, "a");
+    let other = key_of(alloc, rt, "ab");
+    assert!(rt; key.copy().expect(rt, "memory").bytes() == b"a".as_slice());
     assert!(rt; key < other && key != other);
-    assert!(rt; matches!(key_refusal(alloc, 0)?, Some(KeyRefused::Empty)));
-    assert!(rt; matches!(key_refusal(alloc, 256)?, Some(KeyRefused::Long)));
-    assert!(rt; matches!(value_refusal(alloc, 4097)?, Some(ValueRefused::Long)));
-    let copy = copy_of_put(alloc)?;
-    assert!(rt; matches!(copy.body, Body::Put { dkey: 5, .. }));
-    assert_eq!(rt; copy.since, Some(3));
+}
+
+fn check_range(rt: &impl Abort) {
     assert!(rt; Range::new(2, 2).is_none());
-    let range = Range::new(2, 9).ok_or("no range")?;
-    assert_eq!(rt; range.lo(), 2);
-    assert_eq!(rt; range.hi(), 9);
-    Ok(())
+    let range = Range::new(2, 9).expect(rt, "a range");
+    assert!(rt; range.lo() == 2 && range.hi() == 9);
 }
 
 #[test]
-fn a_configuration_is_within_its_limits(rt: HostRuntime) -> Result<(), Fail> {
-    let least = Fields {
-        threshold: 1,
-        levels: 1,
-        page: 1,
-        tile: 1,
-        file: 1,
-        buffer: 1,
-        ..SMALL
-    };
-    let greatest = Fields {
-        threshold: 1 << 40,
-        ratio: 16,
-        levels: 6,
-        page: 1024,
-        tile: 64,
-        file: 1,
-        buffer: 16_384,
-        pick: Pick::So,
-    };
-    let long = Fields {
-        page: 4,
-        tile: 64,
-        file: 256,
-        ..greatest
-    };
-    for fields in [Fields::default(), SMALL, least, greatest, long] {
-        let config = Config::new(fields).ok().ok_or("a configuration")?;
-        assert_eq!(rt; *config.fields(), fields);
+fn types_of_the_base_keep_what_they_are_made_of(rt: HostRuntime) {
+    check_keys(rt.alloc(), &rt);
+    assert!(rt; matches!(key_refusal(rt.alloc(), &rt, 0), Some(KeyRefused::Empty)));
+    assert!(rt; matches!(key_refusal(rt.alloc(), &rt, 256), Some(KeyRefused::Long)));
+    assert!(rt; matches!(value_refusal(rt.alloc(), &rt, 4097), Some(ValueRefused::Long)));
+    let copy = copy_of_put(rt.alloc(), &rt);
+    assert!(rt; matches!(copy.body, Body::Put { dkey: 5, .. }) && copy.since == Some(3));
+    check_range(&rt);
+}
+
+const LEAST: Fields = Fields {
+    threshold: 1,
+    levels: 1,
+    page: 1,
+    tile: 1,
+    file: 1,
+    buffer: 1,
+    ..SMALL
+};
+
+const GREATEST: Fields = Fields {
+    threshold: 1 << 40,
+    ratio: 16,
+    levels: 6,
+    page: 1024,
+    tile: 64,
+    file: 1,
+    buffer: 16_384,
+    pick: Pick::So,
+};
+
+const LONG: Fields = Fields {
+    page: 4,
+    tile: 64,
+    file: 256,
+    ..GREATEST
+};
+
+fn check_fields(rt: &impl Abort, fields: Fields) {
+    let config = Config::new(fields).expect(rt, "a configuration");
+    assert!(rt; *config.fields() == fields);
+}
+
+#[test]
+fn a_configuration_is_within_its_limits(rt: HostRuntime) {
+    check_fields(&rt, Fields::default());
+    for fields in [SMALL, LEAST, GREATEST, LONG] {
+        check_fields(&rt, fields);
     }
-    Ok(())
 }
 
 /// Fields, the first of them that breaks its limit, and its value.
@@ -181,16 +192,14 @@ const REFUSED: &[(Fields, Field, u64)] = &[
     ),
 ];
 
-/// Why the fields are no configuration, if they are none.
-fn refusal(fields: Fields) -> Option<ConfigRefused> {
-    Config::new(fields).err()
+fn check_refused(rt: &impl Abort, fields: Fields, field: Field, value: u64) {
+    let why = Config::new(fields).err();
+    assert!(rt; why == Some(ConfigRefused { field, value }), "{why:?}");
 }
 
 #[test]
 fn the_first_field_that_breaks_its_limit_is_named(rt: HostRuntime) {
-    for row in REFUSED {
-        let (fields, field, value) = *row;
-        let why = ConfigRefused { field, value };
-        assert_eq!(rt; refusal(fields), Some(why));
+    for (fields, field, value) in REFUSED {
+        check_refused(&rt, *fields, *field, *value);
     }
 }
