@@ -255,10 +255,7 @@ fn of_cut(len: usize) -> Replayed {
 fn a_cut_segment_is_refused_in_a_record_and_has_those_before_a_gate(rt: HostRuntime) {
     for len in 0..=MIXED.len() {
         let bytes = cut(&rt, MIXED, len);
-        assert!(rt;
-            is_replayed(rt.alloc(), bytes, of_cut(len)),
-            "{len} bytes"
-        );
+        assert!(rt; is_replayed(rt.alloc(), bytes, of_cut(len)), "{len} bytes");
     }
 }
 

@@ -50,7 +50,12 @@ fn types_of_the_base_keep_what_they_are_made_of(rt: HostRuntime) {
     check_keys(rt.alloc(), &rt);
     assert!(rt; matches!(key_refusal(rt.alloc(), &rt, 0), Some(KeyRefused::Empty)));
     assert!(rt; matches!(key_refusal(rt.alloc(), &rt, 256), Some(KeyRefused::Long)));
-    assert!(rt; matches!(value_refusal(rt.alloc(), &rt, 4097), Some(ValueRefused::Long)));
+    assert!(rt;
+        matches!(
+            value_refusal(rt.alloc(), &rt, 4097),
+            Some(ValueRefused::Long)
+        )
+    );
     let copy = copy_of_put(rt.alloc(), &rt);
     assert!(rt; matches!(copy.body, Body::Put { dkey: 5, .. }) && copy.since == Some(3));
     check_range(&rt);
