@@ -5,7 +5,8 @@ use lethe_base::{Fields, Name, NoMemory};
 use lethe_dirdisk::DirRefused;
 use lethe_reasons::{
     Message, NO_MEMORY_TO_SAY, bad_line, bad_words, damaged, folder_refused, gate_missing,
-    no_memory, no_text, open_exhausted, open_fault, other_config, refused_answer, sink_failed,
+    no_memory, no_text, open_exhausted, open_fault, other_config, refused_answer, refused_call,
+    sink_failed,
     source_failed,
 };
 use lethe_recover::OpenWhy;
@@ -82,8 +83,9 @@ fn run_message(alloc: Global, words: &[String], reason: &Reason) -> Result<Messa
         Reason::Sink => sink_failed(alloc),
         Reason::NotOpened { why, asked } => not_opened(alloc, *why, asked.fields()),
         Reason::NoMemory => no_memory(alloc),
+        Reason::Answer { line } => refused_answer(alloc, *line),
         // Where nothing is wrong the status is 0.
-        Reason::Answer | Reason::Nothing => refused_answer(alloc),
+        Reason::Nothing => refused_call(alloc),
     }
 }
 

@@ -6,7 +6,7 @@ use lethe_dirdisk::{DirDisk, DirRefused};
 use lethe_engine::Engine;
 use lethe_reasons::{
     Message, damaged, folder_refused, no_memory, open_exhausted, open_fault, other_config,
-    refused_answer,
+    refused_call,
 };
 use lethe_recover::OpenWhy;
 use std::alloc::Global;
@@ -84,7 +84,7 @@ fn told(alloc: Global, fault: &Fault) -> Result<Message, NoMemory> {
             OpenWhy::Exhausted { last } => open_exhausted(alloc, last),
             OpenWhy::NoMemory => no_memory(alloc),
         },
-        Fault::Call => refused_answer(alloc),
+        Fault::Call => refused_call(alloc),
     }
 }
 

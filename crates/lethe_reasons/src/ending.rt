@@ -1,6 +1,7 @@
 //! The reasons of a run that began.
 
 use crate::message::Message;
+use crate::opening::GUIDE;
 use lethe_base::NoMemory;
 use std::alloc::Global;
 
@@ -28,11 +29,22 @@ pub fn no_memory(alloc: Global) -> Result<Message, NoMemory> {
     )
 }
 
-/// A line's answer tells of a change that failed or wasn't made, or of a read that wasn't answered.
-pub fn refused_answer(alloc: Global) -> Result<Message, NoMemory> {
+/// The line that was printed as this one, counted from 1, is the first that tells of a change that failed or wasn't made, or of a read that wasn't answered.
+pub fn refused_answer(alloc: Global, line: u64) -> Result<Message, NoMemory> {
+    let line = format!(in alloc; "{line}")?;
+    Message::of(alloc, "line ")?
+        .and(&line)?
+        .and(
+            " of the output is the first that tells of a change that failed or wasn't made, or of a read that wasn't answered: fault, stopped, exhausted, readfault or damaged",
+        )?
+        .and(GUIDE)
+}
+
+/// A call of the store was refused.
+pub fn refused_call(alloc: Global) -> Result<Message, NoMemory> {
     Message::of(
         alloc,
-        "an answer tells of a change that failed or wasn't made, or of a read that wasn't answered: fault, stopped, exhausted, readfault or damaged",
+        "a change failed or wasn't made, or a read wasn't answered",
     )?
-    .and(" (docs/GUIDE.md, When something goes wrong)")
+    .and(GUIDE)
 }

@@ -10,7 +10,7 @@ mod message;
 mod opening;
 mod words;
 
-pub use ending::{no_memory, refused_answer, sink_failed, source_failed};
+pub use ending::{no_memory, refused_answer, refused_call, sink_failed, source_failed};
 pub use folder::{folder_refused, gate_missing};
 pub use line::{SHOWN, bad_line};
 pub use message::{Message, NO_MEMORY_TO_SAY};

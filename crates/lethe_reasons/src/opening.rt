@@ -8,7 +8,7 @@ use lethe_base::{Fields, Kind, Name, NoMemory, Pick};
 use lethe_dirdisk::spell_file_name;
 use std::alloc::Global;
 
-const GUIDE: &str = " (docs/GUIDE.md, When something goes wrong)";
+pub(crate) const GUIDE: &str = " (docs/GUIDE.md, When something goes wrong)";
 
 /// An object is missing, cut or changed.
 pub fn damaged(alloc: Global, name: Name) -> Result<Message, NoMemory>

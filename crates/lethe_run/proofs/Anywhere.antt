@@ -1,5 +1,5 @@
 -- What replies and lines tell on any disk.
-use Rattle.std.proofs.Common.{◌≡◌, inl, inr, ◌≤◌, ℕ, ◌+◌, List, [], ◌∷◌, ◌++◌, Option, Some, None, Result, Ok, Err, refl, sym, ◌∙◌, subst, arith}
+use Rattle.std.proofs.Common.{◌≡◌, inl, inr, ◌≤◌, ℕ, suc, ◌+◌, List, [], ◌∷◌, ◌++◌, length, Option, Some, None, Result, Ok, Err, refl, sym, ap, ◌∙◌, subst, arith}
 use Rattle.std.specs.Prelude.{IfErr, IfOk, IsErrOf, IsSome, MatchResult}
 use Rattle.std.specs.Result.{result_err}
 use Rattle.lethe_base.specs.Counts.{Rose}
@@ -174,6 +174,13 @@ module _ (Ports : Type 0) (from upto : ℕ) where
   phase_more part more [] s (l ∷ lines) middle t told last = absurd told
   phase_more part more (orders ∷ phases) s [] middle t told last = absurd told
   phase_more part more (orders ∷ phases) s (l ∷ lines) middle t told last = (told.0, told.1, phase_more part more phases told.0 lines middle t told.2 last)
+
+-- as many lists of lines as phases
+pub as_many : (Ports : Type 0) (from upto : ℕ) (phases : List (List Order)) (s : Standing) (lines : List (List Line)) (t : Standing) → AreToldThrough Ports from upto phases s lines t → length lines ≡ length phases
+as_many Ports from upto [] s [] t told = refl
+as_many Ports from upto [] s (l ∷ lines) t told = absurd told
+as_many Ports from upto (orders ∷ phases) s [] t told = absurd told
+as_many Ports from upto (orders ∷ phases) s (l ∷ lines) t told = ap suc (as_many Ports from upto phases told.0 lines t told.2)
 
 -- One call after another, whose counts of faults rise
 

@@ -1,5 +1,5 @@
 -- How a run's end follows from what its parts say.
-use Rattle.std.proofs.Common.{◌≡◌, ◌<◌, ◌≤◌, ◌+◌, ℕ, Bool, true, false, List, [], ◌++◌, length, take, Option, Some, None, IfSome, IsSome, IfOk, Result, Ok, Err, inl, inr, refl, sym, ap, ◌∙◌, subst, arith, append-nil}
+use Rattle.std.proofs.Common.{◌≡◌, ◌<◌, ◌≤◌, ◌+◌, ℕ, suc, Bool, true, false, List, [], ◌∷◌, ◌++◌, length, take, Option, Some, None, IfSome, IsSome, IfOk, Result, Ok, Err, inl, inr, refl, sym, ap, ◌∙◌, subst, arith, append-nil}
 use Rattle.std.specs.Prelude.{sum_by}
 use Rattle.std.specs.Io.KnownBytes.{Consumes, IsAtEnd, Appends, Keeps}
 use Rattle.std.proofs.lemmas.Bool.{cases_lt, lt-ltb}
@@ -22,22 +22,21 @@ use Rattle.lethe_script.specs.declared.order.Order.{Order}
 use Rattle.lethe_script.specs.declared.refused.BadLine.{BadLine}
 use Rattle.lethe_script.specs.Grammar.{script_of}
 use Rattle.lethe_run.specs.declared.reply.Line.{Line}
-use Rattle.lethe_run.specs.declared.status.Status.{Status}
-use Rattle.lethe_run.specs.declared.status.Status.TheVariants.{Answered, BadWords, BadScript, ReadFault, WriteFault, Refused, NoMemory, Damaged, OtherConfig}
 use Rattle.lethe_run.specs.Anywhere.{AreToldThrough, IsPlausible, standing_of}
 use Rattle.lethe_run.specs.Carried.{IsCarriedOut}
-use Rattle.lethe_run.specs.Ends as ends
 use Rattle.lethe_run.specs.Ends.{Run, Asks, IsCommand, IsNoCommand, IsUnused, OnScript, Carries, IsBegun, IsSoundFor, course_of, IsNoScript, IsNotOpened}
 use Rattle.lethe_run.specs.Printed.{bad_words, bad_line, open_line}
-use Rattle.lethe_run.specs.Scripts.{All, IsToldFrom, ScriptEnds, Serves}
+use Rattle.lethe_run.specs.Scripts.{IsToldFrom, ScriptEnds, Serves}
 use Rattle.lethe_run.specs.Serving.{IsOn, IsCarried, Point}
 use Rattle.lethe_run.specs.Slots.{no_slots}
-use Rattle.lethe_run.specs.Reasons.{IsShownOf, IsToldOf, IsWhy, Says, after_script, status_of}
+use Rattle.lethe_run.specs.Reasons.{IsShownOf, IsToldOf, IsWhy, Says, status_of}
 use Rattle.lethe_run.specs.Status.{EndsWith, status_for}
 use Rattle.lethe_run.specs.declared.reason.Reason.{Reason}
 use Rattle.lethe_run.specs.declared.reason.Reason.TheVariants as reason
 use Rattle.lethe_run.specs.Transcript.{Start, text_of}
 use Rattle.lethe_run.proofs.Anywhere.{stands_so, through_wider}
+use Rattle.lethe_run.proofs.Phases.{front_text}
+use Rattle.lethe_run.proofs.Refusals.{none_refused, one_refused}
 
 -- what stands behind the limit changes nothing
 past_limit : (bytes more : Bytes) → 16777216 < length bytes → script_of (bytes ++ more) ≡ script_of bytes
@@ -144,7 +143,7 @@ ends_so run reason.Source e = e
 ends_so run reason.Sink e = e
 ends_so run (reason.NotOpened why asked) e = told_by run why asked e.0 e.1.0 e.1.1
 ends_so run reason.NoMemory e = e
-ends_so run reason.Answer e = (e.0, e.1, inl e.2)
+ends_so run (reason.Answer line) e = (e.0, e.1, inl e.2)
 
 -- A script that was carried out
 
@@ -223,28 +222,36 @@ module _ (run : Run) (config : Fields) (asks : Asks run config) (phases : List (
         carried_out told kept left change r next drawn front lines opening (served told (begin_at next) (point left change r) (on left change r opening.later next drawn));
   }
 
-  all : (refused : Bool) → All run.Tells run.PortsFail mid run.finish run.faults run.taken_before run.taken phases refused → ends.Answered run config refused
-  all refused a = record { lines = a.lines; script = script (λ p. Carries run config p a.lines) (carries phases a.lines a.told a.served); written = a.written; is = a.is; sound = sound }
-
-  pub script_ended : (status : Status) → ScriptEnds run.Tells run.PortsFail mid run.finish run.faults run.taken_before run.taken run.SinkRose phases status → IsWhy run (after_script status)
-  script_ended Answered e = (config, asks, all false e)
-  script_ended Refused e = (config, asks, all true e)
-  script_ended WriteFault e = (
+  pub script_ended : (why : Reason) → ScriptEnds run.Tells run.PortsFail mid run.finish run.faults run.taken_before run.taken run.SinkRose phases why → IsWhy run why
+  script_ended reason.Nothing e = (
+    config,
+    asks,
+    record { lines = e.lines; script = script (λ p. Carries run config p e.lines) (carries phases e.lines e.told e.served); written = e.written; is = none_refused e.lines e.first; sound = sound },
+  )
+  script_ended (reason.Answer line) e = (
+    config,
+    asks,
+    record { lines = e.lines; script = script (λ p. Carries run config p e.lines) (carries phases e.lines e.told e.served); written = e.written; is = one_refused e.lines line e.first; sound = sound },
+    e.first,
+  )
+  script_ended reason.Sink e = (
     e.0,
-    text_of e.1.lines,
+    text_of (e.1.before ++ e.1.last ∷ []),
     inr (inr (inr (
       config,
       asks,
       record {
-        lines = e.1.lines;
-        script = script (λ p. (count : ℕ) × Carries run config (take count p) e.1.lines) (e.1.count, carries (take e.1.count phases) e.1.lines e.1.told e.1.served);
+        before = e.1.before;
+        last = e.1.last;
+        script = script (λ p. Carries run config (take (suc (length e.1.before)) p) (e.1.before ++ e.1.last ∷ [])) (carries (take (suc (length e.1.before)) phases) (e.1.before ++ e.1.last ∷ []) e.1.told e.1.served);
         is = refl;
+        whole = e.1.whole;
         sound = sound;
       },
     ))),
-    e.1.written,
+    front_text run.taken_before e.1.whole.0 run.taken e.1.before e.1.last e.1.whole.1 e.1.whole.2,
   )
-  script_ended NoMemory e = (
+  script_ended reason.NoMemory e = (
     config,
     asks,
     inr (record {
@@ -254,11 +261,10 @@ module _ (run : Run) (config : Fields) (asks : Asks run config) (phases : List (
       sound = sound;
     }),
   )
-  script_ended BadWords e = absurd e
-  script_ended BadScript e = absurd e
-  script_ended ReadFault e = absurd e
-  script_ended Damaged e = absurd e
-  script_ended OtherConfig e = absurd e
+  script_ended reason.Words e = absurd e
+  script_ended (reason.Line bad text) e = absurd e
+  script_ended reason.Source e = absurd e
+  script_ended (reason.NotOpened why asked) e = absurd e
 
 -- where numbers ran out, the manifest's next number, those of the journal's files and two more reach past the last one
 pub drawn_by : (Tells : Type 0) (start finish : Seen) (before now : ℕ) (why : OpenWhy) (config : Fields) → MayNotOpen Tells config start.directory before now why → ((last : ℕ) → why ≡ open_why.Exhausted last → start.moment < finish.moment) → Tells → (last : ℕ) → why ≡ open_why.Exhausted last

@@ -1,5 +1,5 @@
 -- How a script ends, by what became of its phases.
-use Rattle.std.proofs.Common.{◌≡◌, ◌≤◌, inl, inr, ℕ, suc, Bool, true, false, cond, List, [], ◌∷◌, ◌++◌, length, take, slice_get, Option, Some, refl, sym, ap, ◌∙◌, subst, arith, append-nil}
+use Rattle.std.proofs.Common.{◌≡◌, ◌≤◌, inl, inr, ℕ, suc, Bool, true, List, [], ◌∷◌, ◌++◌, length, take, slice_get, Option, Some, None, refl, sym, ap, ◌∙◌, subst, arith, append-nil}
 use Rattle.std.specs.Io.KnownBytes.{Appends}
 use Rattle.lethe_base.specs.Keys.{Bytes}
 use Rattle.lethe_base.specs.History.{History}
@@ -11,17 +11,20 @@ use Rattle.lethe_state.specs.declared.state.State.{State}
 use Rattle.lethe_script.specs.declared.order.Order.{Order}
 use Rattle.lethe_wire.specs.Causes.{AppendsFront}
 use Rattle.lethe_run.specs.declared.reply.Line.{Line}
-use Rattle.lethe_run.specs.declared.status.Status.{Status}
-use Rattle.lethe_run.specs.declared.status.Status.TheVariants.{Answered, BadWords, BadScript, ReadFault, WriteFault, Refused, NoMemory, Damaged, OtherConfig}
+use Rattle.lethe_run.specs.declared.reason.Reason.{Reason}
+use Rattle.lethe_run.specs.declared.reason.Reason.TheVariants.{Nothing, Words, Source, Sink, NotOpened, NoMemory, Answer}
+use Rattle.lethe_run.specs.declared.reason.Reason.TheVariants as reason
 use Rattle.lethe_run.specs.Anywhere.{AreTold, AreToldThrough, standing_of}
 use Rattle.lethe_run.specs.Ends.{IsBegun}
-use Rattle.lethe_run.specs.Scripts.{All, Behind, Inside, IsToldFrom, Serves, ScriptEnds, IsCutBy}
+use Rattle.lethe_run.specs.Printed.{lines_text}
+use Rattle.lethe_run.specs.Refusals.{IsFirstOr, all_of}
+use Rattle.lethe_run.specs.Scripts.{All, Behind, Inside, IsToldFrom, Serves, ScriptEnds, IsCutBy, reason_for}
 use Rattle.lethe_run.specs.Serving.{IsOn, IsPhase, Point, opened_in}
 use Rattle.lethe_run.specs.Slots.{Slots, no_slots}
-use Rattle.lethe_run.specs.Transcript.{Start, text_of, has_refusal}
-use Rattle.lethe_run.proofs.Anywhere.{stands_so, through_more}
+use Rattle.lethe_run.specs.Transcript.{Start, text_of}
+use Rattle.lethe_run.proofs.Anywhere.{as_many, stands_so, through_more}
 use Rattle.lethe_run.proofs.Images.{calls_then}
-use Rattle.lethe_run.proofs.Phases.{SoFar, so_far_start, so_far_more, carried}
+use Rattle.lethe_run.proofs.Phases.{SoFar, front_text, so_far_start, so_far_more, carried}
 
 get_behind : {X : Type 0} (front : List X) (x : X) (rest : List X) → slice_get (front ++ x ∷ rest) (length front) ≡ Some x
 get_behind [] x rest = refl
@@ -63,14 +66,14 @@ module _ (Tells Ports : Type 0) (start then : View) (itself : Tells → Image th
   tells phases lines so_far = (standing_of then behind, so_far.told)
 
   -- all were answered
-  all : (phases : List (List Order)) (lines : List (List Line)) (old new : Option Bytes) (refused : Bool) → Before Tells Ports start then behind Is phases lines → Appends old new (text_of lines) → has_refusal lines ≡ refused
+  all : (phases : List (List Order)) (lines : List (List Line)) (old new : Option Bytes) (refused : Option ℕ) → Before Tells Ports start then behind Is phases lines → Appends old new (text_of lines) → IsFirstOr (all_of lines) refused
       → All Tells Ports start then.disk then.faults old new phases refused
-  all phases lines old new refused so_far written is = record { lines = lines; told = tells phases lines so_far; served = serves phases lines so_far; written = written; is = is }
+  all phases lines old new refused so_far written first = record { lines = lines; told = tells phases lines so_far; served = serves phases lines so_far; written = written; first = first }
 
-  pub all_ends : (phases : List (List Order)) (lines : List (List Line)) (old new : Option Bytes) (SinkRose : Type 0) (refused : Bool) → Before Tells Ports start then behind Is phases lines → Appends old new (text_of lines) → has_refusal lines ≡ refused
-      → ScriptEnds Tells Ports start then.disk then.faults old new SinkRose phases (cond refused Refused Answered)
-  all_ends phases lines old new SinkRose true so_far written is = all phases lines old new true so_far written is
-  all_ends phases lines old new SinkRose false so_far written is = all phases lines old new false so_far written is
+  pub all_ends : (phases : List (List Order)) (lines : List (List Line)) (old new : Option Bytes) (SinkRose : Type 0) (refused : Option ℕ) → Before Tells Ports start then behind Is phases lines → Appends old new (text_of lines)
+      → IsFirstOr (all_of lines) refused → ScriptEnds Tells Ports start then.disk then.faults old new SinkRose phases (reason_for refused)
+  all_ends phases lines old new SinkRose None so_far written first = all phases lines old new None so_far written first
+  all_ends phases lines old new SinkRose (Some line) so_far written first = all phases lines old new (Some line) so_far written first
 
   -- some were, and of the next one a part
   module _ (now : View) (between : Slots) (Was : History → Type 0) (up : start.faults ≤ now.faults) (later : now.faults ≤ then.faults) (phases yielded rest : List (List Order)) (orders : List Order) (are : phases ≡ yielded ++ orders ∷ rest) (lines : List (List Line)) (more : List Line) (whole : Bool)
@@ -90,16 +93,17 @@ module _ (Tells Ports : Type 0) (start then : View) (itself : Tells → Image th
     pub next_so_far : whole ≡ true → Before Tells Ports start then behind Is (yielded ++ orders ∷ []) (lines ++ more ∷ [])
     next_so_far is = subst (λ p. Before Tells Ports start then behind Is (yielded ++ p ∷ []) (lines ++ more ∷ [])) (part_whole orders orders part phase.1 refl phase.2 (phase.3 is)) begun_so_far
 
-    stopped_behind : (old new : Option Bytes) → whole ≡ true → AppendsFront old new (text_of (lines ++ more ∷ [])) → Behind Tells Ports start then.disk then.faults old new phases
-    stopped_behind old new is written =
-        let count = suc (length yielded) in
-        let next = subst (λ p. Before Tells Ports start then behind Is p (lines ++ more ∷ [])) (sym (ap (take count) are ∙ take_more yielded orders rest)) (next_so_far is) in
+    stopped_behind : (old middle new : Option Bytes) → whole ≡ true → Appends old middle (text_of lines) → AppendsFront middle new (lines_text more) → Behind Tells Ports start then.disk then.faults old new phases
+    stopped_behind old middle new is before last =
+        let front : take (suc (length lines)) phases ≡ yielded ++ orders ∷ [] =
+        ap (λ n. take (suc n) phases) (as_many Ports start.faults now.faults yielded (standing_of start no_slots) lines (standing_of now between) so_far.told) ∙ ap (take (suc (length yielded))) are ∙ take_more yielded orders rest in
+        let next = subst (λ p. Before Tells Ports start then behind Is p (lines ++ more ∷ [])) (sym front) (next_so_far is) in
         record {
-          lines = lines ++ more ∷ [];
-          count = count;
-          told = tells (take count phases) (lines ++ more ∷ []) next;
-          served = serves (take count phases) (lines ++ more ∷ []) next;
-          written = written;
+          before = lines;
+          last = more;
+          told = tells (take (suc (length lines)) phases) (lines ++ more ∷ []) next;
+          served = serves (take (suc (length lines)) phases) (lines ++ more ∷ []) next;
+          whole = (middle, before, last);
         }
 
     begun : IsBegun phases (yielded ++ part ∷ [])
@@ -121,17 +125,16 @@ module _ (Tells Ports : Type 0) (start then : View) (itself : Tells → Image th
       written = written;
     }
 
-    pub cut_ends : (old new : Option Bytes) (Rose SinkRose : Type 0) (status : Status) → (Rose → SinkRose) → AppendsFront old new (text_of (lines ++ more ∷ [])) → IsCutBy (whole ≡ true) Rose status
-        → ScriptEnds Tells Ports start then.disk then.faults old new SinkRose phases status
-    cut_ends old new Rose SinkRose NoMemory rose written cut = inside old new written
-    cut_ends old new Rose SinkRose WriteFault rose written cut = (rose cut.1, stopped_behind old new cut.0 written)
-    cut_ends old new Rose SinkRose Answered rose written cut = absurd cut
-    cut_ends old new Rose SinkRose Refused rose written cut = absurd cut
-    cut_ends old new Rose SinkRose BadWords rose written cut = absurd cut
-    cut_ends old new Rose SinkRose BadScript rose written cut = absurd cut
-    cut_ends old new Rose SinkRose ReadFault rose written cut = absurd cut
-    cut_ends old new Rose SinkRose Damaged rose written cut = absurd cut
-    cut_ends old new Rose SinkRose OtherConfig rose written cut = absurd cut
+    pub cut_ends : (old middle new : Option Bytes) (Rose SinkRose : Type 0) (why : Reason) → (Rose → SinkRose) → Appends old middle (text_of lines) → AppendsFront middle new (lines_text more) → IsCutBy (whole ≡ true) Rose why
+        → ScriptEnds Tells Ports start then.disk then.faults old new SinkRose phases why
+    cut_ends old middle new Rose SinkRose NoMemory rose before last cut = inside old new (front_text old middle new lines more before last)
+    cut_ends old middle new Rose SinkRose Sink rose before last cut = (rose cut.1, stopped_behind old middle new cut.0 before last)
+    cut_ends old middle new Rose SinkRose Nothing rose before last cut = absurd cut
+    cut_ends old middle new Rose SinkRose (Answer line) rose before last cut = absurd cut
+    cut_ends old middle new Rose SinkRose Words rose before last cut = absurd cut
+    cut_ends old middle new Rose SinkRose (reason.Line bad text) rose before last cut = absurd cut
+    cut_ends old middle new Rose SinkRose Source rose before last cut = absurd cut
+    cut_ends old middle new Rose SinkRose (NotOpened why asked) rose before last cut = absurd cut
 
 -- Making a port is nothing on the disk
 
@@ -171,20 +174,20 @@ module _ (Tells Ports : Type 0) (start mid : View) (idle : Tells → IsIdle star
             (subst (λ n. AreToldThrough Ports n now phases (standing_of mid no_slots) lines told.0) faults told.1),
       )
 
-      all_idle : (phases : List (List Order)) (refused : Bool) → All Tells Ports mid finish now old new phases refused → All Tells Ports start finish now old new phases refused
-      all_idle phases refused a = record { lines = a.lines; told = told_idle phases a.lines a.told; served = serves_idle phases a.lines a.served; written = a.written; is = a.is }
+      all_idle : (phases : List (List Order)) (refused : Option ℕ) → All Tells Ports mid finish now old new phases refused → All Tells Ports start finish now old new phases refused
+      all_idle phases refused a = record { lines = a.lines; told = told_idle phases a.lines a.told; served = serves_idle phases a.lines a.served; written = a.written; first = a.first }
 
-      pub ends_idle : (SinkRose : Type 0) (phases : List (List Order)) (status : Status) → ScriptEnds Tells Ports mid finish now old new SinkRose phases status → ScriptEnds Tells Ports start finish now old new SinkRose phases status
-      ends_idle SinkRose phases Answered e = all_idle phases false e
-      ends_idle SinkRose phases Refused e = all_idle phases true e
-      ends_idle SinkRose phases WriteFault e = (
+      pub ends_idle : (SinkRose : Type 0) (phases : List (List Order)) (why : Reason) → ScriptEnds Tells Ports mid finish now old new SinkRose phases why → ScriptEnds Tells Ports start finish now old new SinkRose phases why
+      ends_idle SinkRose phases Nothing e = all_idle phases None e
+      ends_idle SinkRose phases (Answer line) e = all_idle phases (Some line) e
+      ends_idle SinkRose phases Sink e = (
         e.0,
         record {
-          lines = e.1.lines;
-          count = e.1.count;
-          told = told_idle (take e.1.count phases) e.1.lines e.1.told;
-          served = serves_idle (take e.1.count phases) e.1.lines e.1.served;
-          written = e.1.written;
+          before = e.1.before;
+          last = e.1.last;
+          told = told_idle (take (suc (length e.1.before)) phases) (e.1.before ++ e.1.last ∷ []) e.1.told;
+          served = serves_idle (take (suc (length e.1.before)) phases) (e.1.before ++ e.1.last ∷ []) e.1.served;
+          whole = e.1.whole;
         },
       )
       ends_idle SinkRose phases NoMemory e = record {
@@ -195,11 +198,10 @@ module _ (Tells Ports : Type 0) (start mid : View) (idle : Tells → IsIdle star
         served = serves_idle e.front e.lines e.served;
         written = e.written;
       }
-      ends_idle SinkRose phases BadWords e = absurd e
-      ends_idle SinkRose phases BadScript e = absurd e
-      ends_idle SinkRose phases ReadFault e = absurd e
-      ends_idle SinkRose phases Damaged e = absurd e
-      ends_idle SinkRose phases OtherConfig e = absurd e
+      ends_idle SinkRose phases Words e = absurd e
+      ends_idle SinkRose phases (reason.Line bad text) e = absurd e
+      ends_idle SinkRose phases Source e = absurd e
+      ends_idle SinkRose phases (NotOpened why asked) e = absurd e
 
   -- where there was no memory for it, nothing is served
   pub none_served : (Tells → Image mid.disk mid.disk.directory) → (old : Option Bytes) (phases : List (List Order)) → AppendsFront old old [] → Inside Tells Ports start mid.disk mid.faults old old phases

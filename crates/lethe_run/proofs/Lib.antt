@@ -13,6 +13,7 @@ pub mod Looks
 pub mod Pinned
 pub mod Slotted
 pub mod Runs
+pub mod Refusals
 pub mod Options
 pub mod Turns
 pub mod Serving

@@ -1,5 +1,5 @@
 -- What the named parts of a run's end have in common.
-use Rattle.std.proofs.Common.{◌≡◌, ◌⊎◌, ◌≤◌, ◌<◌, ℕ, ◌+◌, ◌-◌, true, false, List, [], ◌∷◌, length, take, Some, None, IfSome, Result, Ok, Err, inl, inr, refl, sym, ap, ◌∙◌, subst}
+use Rattle.std.proofs.Common.{◌≡◌, ◌⊎◌, ◌≤◌, ◌<◌, ℕ, suc, ◌+◌, ◌-◌, true, false, List, [], ◌∷◌, ◌++◌, length, take, Some, None, IfSome, Result, Ok, Err, inl, inr, refl, sym, ap, ◌∙◌, subst}
 use Rattle.std.specs.Prelude.{IsOk, IsErr, Contains, sum_by, is_some}
 use Rattle.lethe_base.specs.Counts.{Rose}
 use Rattle.lethe_base.specs.Keys.{Bytes}
@@ -113,7 +113,7 @@ module _ (run : Run) where
   asked_paces text (inl words) = unused_paces words.2
   asked_paces text (inr (inl bad)) = unused_paces bad.2.1
   asked_paces text (inr (inr (inl not))) = opening_paces not.0 not.2 not.3
-  asked_paces text (inr (inr (inr behind))) = carries_paces behind.0 (take behind.2.script.2.0 behind.2.script.0) behind.2.lines behind.2.script.2.1
+  asked_paces text (inr (inr (inr behind))) = carries_paces behind.0 (take (suc (length behind.2.before)) behind.2.script.0) (behind.2.before ++ behind.2.last ∷ []) behind.2.script.2
 
   pub memory_paces : (config : Fields) → IsUnbegun run config ⊎ StoppedInside run config → Paces
   memory_paces config (inl unbegun) = elim unbegun.1 [ inl unused ↦ unused_paces unused | inr not ↦ opening_paces config open_why.NoMemory not ]

@@ -1,11 +1,9 @@
 -- One phase after another.
-use Rattle.std.proofs.Common.{◌≡◌, ◌≤◌, ℕ, Bool, true, false, ◌||◌, List, take, [], ◌∷◌, ◌++◌, Option, Some, None, refl, sym, ap, ◌∙◌, subst, append_assoc, append-nil}
+use Rattle.std.proofs.Common.{◌≡◌, ◌≤◌, ℕ, List, take, [], ◌∷◌, ◌++◌, Option, Some, None, refl, sym, ap, ◌∙◌, subst, append_assoc, append-nil}
 use Rattle.std.specs.Prelude.{All, length}
-use Rattle.std.specs.List.{list_any}
 use Rattle.std.specs.Io.KnownBytes.{Appends}
 use Rattle.std.proofs.Math.Seq.{take-append_seam}
 use Rattle.std.proofs.lemmas.List.Elements.{All-append, All-cons, All-nil, All-weaker}
-use Rattle.std.proofs.lemmas.List.Folds.{list_any-append}
 use Rattle.std.proofs.lemmas.Grind.{flat_map-append}
 use Rattle.lethe_base.specs.History.{History}
 use Rattle.lethe_base.specs.Keys.{Bytes}
@@ -21,7 +19,7 @@ use Rattle.lethe_run.specs.declared.reply.Line.{Line}
 use Rattle.lethe_run.specs.Printed.{lines_text}
 use Rattle.lethe_run.specs.Carried.{IsBorneOut, IsLasting, certificates_in}
 use Rattle.lethe_run.specs.Serving.{Advances, IsBorneOn, IsOn, IsPhase, IsCarried, Point}
-use Rattle.lethe_run.specs.Transcript.{Course, Start, course, IsServed, AreServed, text_of, is_refusal, has_refusal}
+use Rattle.lethe_run.specs.Transcript.{Course, Start, course, IsServed, AreServed, text_of}
 use Rattle.lethe_run.proofs.Images.{still, leaves, has_config, is_clean}
 use Rattle.lethe_run.proofs.Lasting.{Stays, begins_now, bound_now, done_within, here, seen_now, stays_lasting, stays_later}
 use Rattle.lethe_run.proofs.Serving.{advances_then, all_borne_later, served_later}
@@ -56,13 +54,6 @@ whole_text old mid new lines more a b = subst (Appends old new) (sym (text_more 
 
 pub front_text : (old mid new : Option Bytes) (lines : List (List Line)) (more : List Line) → Appends old mid (text_of lines) → AppendsFront mid new (lines_text more) → AppendsFront old new (text_of (lines ++ more ∷ []))
 front_text old mid new lines more a b = subst (AppendsFront old new) (sym (text_more lines more)) (front_then old mid new (text_of lines) (lines_text more) a b)
-
-or_false : (b : Bool) → (b || false) ≡ b
-or_false true = refl
-or_false false = refl
-
-pub refusal_more : (lines : List (List Line)) (more : List Line) → has_refusal (lines ++ more ∷ []) ≡ (has_refusal lines || list_any is_refusal more)
-refusal_more lines more = list_any-append (list_any is_refusal) lines (more ∷ []) ∙ ap (λ b. has_refusal lines || b) (or_false (list_any is_refusal more))
 
 -- what the certificates of a phase say was so, and stays so
 abbrev pub AreBorneOn : Start → History → View → List Line → Type 0

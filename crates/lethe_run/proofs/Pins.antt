@@ -195,3 +195,21 @@ barred_by (pin ∷ pins) held number limit those ordered first =
     let those_low = those (λ n l. limit - l) in
     let left = all_none (λ (pin : Pin). limit - pin.limit) held (omega (arith, none, those_low)) in
     (found.0, found.1, it.0, it.1, All-weaker (λ (pin : Pin). limit - pin.limit ≡ 0) (λ pin. limit ≤ pin.limit) (λ pin none. omega (arith, none)) held left)
+
+-- A tick passes
+
+-- where the first limit is above a time, all are
+pub all_above : (pins : List store.Pin) (to : ℕ) → AllPairs ComesBefore pins → ((number limit : ℕ) → first_limit_of pins ≡ Some (number, limit) → to < limit) → All (λ pin. to < pin.limit) pins
+all_above [] to ordered above = All-nil (λ (pin : store.Pin). to < pin.limit)
+all_above (pin ∷ pins) to ordered above =
+    let first : to < pin.limit = above pin.number pin.limit refl in
+    All-cons (λ (pin : store.Pin). to < pin.limit) pin pins first
+    (All-weaker (ComesBefore pin) (λ (other : store.Pin). to < other.limit) (λ other before. let le = before.limit in omega (arith, le, first)) pins (pairs_head ComesBefore pin pins ordered))
+
+-- and so are those of the slots
+pub passed_by : (pins : List store.Pin) (held : List Pin) (to : ℕ) → AreThose pins held → All (λ pin. to < pin.limit) pins → All (λ pin. to < pin.limit) held
+passed_by pins held to those above =
+    let none = none_all (λ (pin : store.Pin). (to + 1) - pin.limit) pins (All-weaker (λ (pin : store.Pin). to < pin.limit) (λ (pin : store.Pin). (to + 1) - pin.limit ≡ 0) (λ pin above. omega (arith, above)) pins above) in
+    let same = those (λ n l. (to + 1) - l) in
+    let left = all_none (λ (pin : Pin). (to + 1) - pin.limit) held (omega (arith, none, same)) in
+    All-weaker (λ (pin : Pin). (to + 1) - pin.limit ≡ 0) (λ (pin : Pin). to < pin.limit) (λ pin none. omega (arith, none)) held left

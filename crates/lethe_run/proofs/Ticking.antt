@@ -1,7 +1,8 @@
 -- A tick is answered.
 use Rattle.std.proofs.Common.{◌≡◌, ◌⊎◌, inl, inr, ◌≤◌, ◌<◌, ℕ, suc, ◌+◌, [], ◌∷◌, length, take, Option, Some, None, Result, Ok, Err, refl, sym, ap, ◌∙◌, subst, arith}
-use Rattle.std.specs.Prelude.{IfErr, IfOk, IfSome, IsErrOf, OnOk, option_map}
+use Rattle.std.specs.Prelude.{All, IfErr, IfOk, IfSome, IsErrOf, OnOk, option_map}
 use Rattle.std.specs.Result.{result_err}
+use Rattle.std.proofs.lemmas.Bool.{cases_lt}
 use Rattle.std.proofs.lemmas.List.{take_all}
 use Rattle.std.proofs.lemmas.Option.{IfSome_then}
 use Rattle.lethe_base.specs.History.{AreDone, Change, History, State, after, change_at}
@@ -29,7 +30,7 @@ use Rattle.lethe_engine.specs.Ticks.{HasReasonOfTick, IsBarred, IsBehind, IsCert
 use Rattle.lethe_engine.specs.declared.ticking.Ticked.{Ticked}
 use Rattle.lethe_engine.proofs.Clean.{now_clean}
 use Rattle.lethe_manifest.specs.declared.manifest.Manifest.{Manifest}
-use Rattle.lethe_pins.specs.Held.{AreHeld}
+use Rattle.lethe_pins.specs.Held.{AreHeld, first_limit_of}
 use Rattle.lethe_script.specs.declared.order.Act.{Act}
 use Rattle.lethe_script.specs.declared.order.Act.TheVariants as acts
 use Rattle.lethe_state.specs.Room.{frozen_len}
@@ -46,8 +47,22 @@ use Rattle.lethe_run.proofs.Anywhere.{Tells, ok_runs, stands_so}
 use Rattle.lethe_run.proofs.Anywhere as anywhere
 use Rattle.lethe_run.proofs.Lasting.{here, seen_now}
 use Rattle.lethe_run.proofs.Outcomes.{Outcome}
-use Rattle.lethe_run.proofs.Pins.{barred_by}
+use Rattle.lethe_run.proofs.Pins.{all_above, barred_by, passed_by}
 use Rattle.lethe_run.proofs.Steps.{Replied, Says, advances, hindered, longer, next_place, not_made, unreadable}
+
+-- What doesn't fail
+
+no_error : (ticked : Ticked) (why : Refused) → IsErrOf (Ok ticked) why → ⊥
+no_error ticked why is = cc
+
+not_below : (clock to : ℕ) → (to < clock → ⊥) → clock ≤ to
+not_below clock to never = elim (cases_lt to clock) [ inl ahead ↦ absurd (never ahead) | inr not ↦ omega (arith, not) ]
+
+above_of : (to limit : ℕ) → (limit ≤ to → ⊥) → to < limit
+above_of to limit never = elim (cases_lt to limit) [ inl above ↦ above | inr not ↦ absurd (never (omega (arith, not))) ]
+
+below_of : (n most : ℕ) → n ≤ most → (n ≡ most → ⊥) → n < most
+below_of n most few never = elim (cases_lt n most) [ inl below ↦ below | inr not ↦ absurd (never (omega (arith, few, not))) ]
 
 -- But for its own refusals, where its time is behind the clock or a pin bars it, a tick is refused as a change is
 
@@ -114,6 +129,19 @@ module _ (to : ℕ) (old new : View) where
 
   -- On any disk
 
+  -- where it is done, the limit of each pin that is held is above its time
+  pub all_pass : AreHeld old.pins → old.state.count ≤ max_place → old.rounds < max_place → (result : Result Ticked Refused) → ((at : ℕ) → old.state.stopped ≡ Some at → IsErrOf result (refused.Stopped at))
+      → (old.state.stopped ≡ None → to < old.state.manifest.clock → IsErrOf result (refused.Backwards old.state.manifest.clock))
+      → (old.state.stopped ≡ None → old.state.manifest.clock ≤ to → (old.state.count ≡ max_place) ⊎ (max_place ≤ old.rounds) → IsErrOf result (refused.Exhausted max_place))
+      → (IsTickable old to → (pin limit : ℕ) → first_limit_of old.pins.pins ≡ Some (pin, limit) → limit ≤ to → IsErrOf result (refused.Pinned pin limit))
+      → OnOk result (All (λ pin. to < pin.limit) old.pins.pins)
+  all_pass pins few rounds (Err why) stop behind full barred = tt
+  all_pass pins few rounds (Ok ticked) stop behind full barred =
+      let runs = ok_runs old (Ok ticked) ticked refl stop in
+      let forward = not_below old.state.manifest.clock to (λ ahead. no_error ticked (refused.Backwards old.state.manifest.clock) (behind runs ahead)) in
+      let place = below_of old.state.count max_place few (λ full_is. no_error ticked (refused.Exhausted max_place) (full runs forward (inl full_is))) in
+      all_above old.pins.pins to pins.ordered (λ number limit first. above_of to limit (λ reached. no_error ticked (refused.Pinned number limit) (barred (record { runs = runs; forward = forward; place = place; round = rounds }) number limit first reached)))
+
   module _ (Told Ports : Type 0) (point : ℕ) (at : point ≡ old.state.count) (slots behind : Slots) (kept : behind ≡ slots) where
     backwards_tells : (why : Refused) → IsBehind old to why → anywhere.Says Told Ports act call refl face old new slots behind kept (Some why) → Tells Ports act (tick_refusal_of point why) old slots new behind
     backwards_tells why (runs, ahead, is) says =
@@ -130,17 +158,18 @@ module _ (to : ℕ) (old new : View) where
         subst (λ e. Tells Ports act (tick_refusal_of point e) old slots new behind) (sym barred.told)
         (((to, refl, barred.reached), may.runs, anywhere.still Told Ports act call refl face old new slots behind kept told.count told.stopped), (by.0, by.1, by.2, by.3, by.4, kept))
 
-    pub tick_tells : HoldsPins old slots → AreHeld old.pins → (before now : ℕ) (result : Result Ticked Refused) → anywhere.Says Told Ports act call refl face old new slots behind kept (result_err result)
+    pub tick_tells : HoldsPins old slots → AreHeld old.pins → (before now : ℕ) (result : Result Ticked Refused) → OnOk result (All (λ pin. to < pin.limit) old.pins.pins)
+        → anywhere.Says Told Ports act call refl face old new slots behind kept (result_err result)
         → IfOk result (λ told. (told.place ≡ old.state.count + 1) × (told.clock ≡ to))
         → IfErr result (HasReasonOfTick Told Ports to old new before now) → ((at : ℕ) → old.state.stopped ≡ Some at → IsErrOf result (refused.Stopped at)) → Tells Ports act (tick_reply_of point result) old slots new behind
-    tick_tells holds pins before now (Ok ticked) says is why stop =
+    tick_tells holds pins before now (Ok ticked) above says is why stop =
         let runs = ok_runs old (Ok ticked) ticked refl stop in
-        (((to, refl, is.1), runs, is.0, stands_so new behind (record { count = ticked.place; failed = None; slots = slots }) (says.count ∙ sym is.0) (says.stopped ∙ runs) kept), kept)
-    tick_tells holds pins before now (Err why) says is (inl ahead) stop = backwards_tells why ahead says
-    tick_tells holds pins before now (Err why) says is (inr (inl barred)) stop = barred_tells holds pins why barred says
-    tick_tells holds pins before now (Err why) says is (inr (inr (inl reason))) stop =
+        (((to, refl, is.1), runs, is.0, stands_so new behind (record { count = ticked.place; failed = None; slots = slots }) (says.count ∙ sym is.0) (says.stopped ∙ runs) kept), (subst (λ n. All (λ pin. n < pin.limit) (pins_of slots)) (sym is.1) (passed_by old.pins.pins (pins_of slots) to holds.those above), kept))
+    tick_tells holds pins before now (Err why) above says is (inl ahead) stop = backwards_tells why ahead says
+    tick_tells holds pins before now (Err why) above says is (inr (inl barred)) stop = barred_tells holds pins why barred says
+    tick_tells holds pins before now (Err why) above says is (inr (inr (inl reason))) stop =
         subst (λ r. Tells Ports act r old slots new behind) (hindered_not_behind point why _ old new.faults reason) (anywhere.hindered Told Ports act call refl face old new slots behind kept _ why reason says)
-    tick_tells holds pins before now (Err why) says is (inr (inr (inr reason))) stop =
+    tick_tells holds pins before now (Err why) above says is (inr (inr (inr reason))) stop =
         subst (λ r. Tells Ports act r old slots new behind) (unreadable_not_behind point why Told Ports before now reason.1)
         (anywhere.unreadable Told Ports act call refl face old new slots behind kept before now why reason.0 reason.1 says)
 

@@ -1,5 +1,5 @@
 -- How a run may end, what it has written then, and what it leaves on the disk.
-use Rattle.std.specs.Prelude.{◌≡◌, ◌⊎◌, ◌≤◌, ◌<◌, ◌+◌, ◌-◌, ℕ, Bool, true, false, List, [], ◌∷◌, ◌++◌, length, take, slice_get, sum_by, Option, Some, None, IfSome, IsSome, IsOk, IsErr, Ok, Err, Contains}
+use Rattle.std.specs.Prelude.{◌≡◌, ◌⊎◌, ◌≤◌, ◌<◌, ◌+◌, ◌-◌, ℕ, suc, Bool, true, false, List, [], ◌∷◌, ◌++◌, length, take, slice_get, sum_by, Option, Some, None, IfSome, IsSome, IsOk, IsErr, Ok, Err, Contains}
 use Rattle.std.specs.Io.KnownBytes.{Appends, Keeps}
 use Rattle.lethe_wire.specs.Causes.{AppendsFront}
 use Rattle.lethe_base.specs.Counts.{Rose}
@@ -28,7 +28,7 @@ use Rattle.lethe_run.specs.declared.reply.Line.{Line}
 use Rattle.lethe_run.specs.Asked.{config_of}
 use Rattle.lethe_run.specs.Anywhere.{IsPlausible}
 use Rattle.lethe_run.specs.Carried.{IsCarriedOut}
-use Rattle.lethe_run.specs.Printed.{bad_words, bad_line, open_line}
+use Rattle.lethe_run.specs.Printed.{bad_words, bad_line, lines_text, open_line}
 use Rattle.lethe_run.specs.Transcript.{Course, course, most_of_a_change, text_of, has_refusal}
 
 -- What a run was given, and what it left. Of the source and the sink: what the one had and the other has taken, where they tell it, and
@@ -93,11 +93,13 @@ pub record Answered (run : Run) (config : Fields) (refused : Bool) : Type 0 wher
   pub is : has_refusal lines ≡ refused
   pub sound : IsSoundFor run config
 
--- the script was carried out up to a phase, in which the sink failed
+-- the script was carried out up to a phase in whose lines the sink failed; those of the phases before it were written whole
 pub record StoppedBehind (run : Run) (config : Fields) (text : Bytes) : Type 0 where
-  pub lines : List (List Line)
-  pub script : OnScript run (λ phases. (count : ℕ) × Carries run config (take count phases) lines)
-  pub is : text ≡ text_of lines
+  pub before : List (List Line)
+  pub last : List Line
+  pub script : OnScript run (λ phases. Carries run config (take (suc (length before)) phases) (before ++ last ∷ []))
+  pub is : text ≡ text_of (before ++ last ∷ [])
+  pub whole : (middle : Option Bytes) × Appends run.taken_before middle (text_of before) × AppendsFront middle run.taken (lines_text last)
   pub sound : IsSoundFor run config
 
 -- whole phases, and of the next one the first orders

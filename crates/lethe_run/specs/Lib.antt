@@ -9,6 +9,7 @@ pub mod Reasons
 pub mod Scans
 pub mod Asked
 pub mod Replies
+pub mod Refusals
 pub mod Holding
 pub mod Serving
 pub mod Rows

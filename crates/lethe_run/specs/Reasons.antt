@@ -13,6 +13,7 @@ use Rattle.lethe_run.specs.declared.status.Status.TheVariants.{Answered, BadWord
 use Rattle.lethe_run.specs.Ends as ends
 use Rattle.lethe_run.specs.Ends.{Run, Asks, IsCommand, IsNoScript, Refuses}
 use Rattle.lethe_run.specs.Printed.{bad_line}
+use Rattle.lethe_run.specs.Refusals.{IsFirstRefusal}
 use Rattle.lethe_run.specs.Status.{EndsWith, code_of, status_for}
 
 -- the end that a reason has
@@ -24,7 +25,7 @@ status_of reason.Source = ReadFault
 status_of reason.Sink = WriteFault
 status_of (reason.NotOpened why asked) = status_for why
 status_of reason.NoMemory = NoMemory
-status_of reason.Answer = Refused
+status_of (reason.Answer line) = Refused
 
 -- the line of this number, from 1 on, is this
 abbrev pub IsLineAt : Bytes → ℕ → Bytes → Type 0
@@ -35,7 +36,8 @@ unfoldable pub IsShownOf : Bytes → ℕ → Bytes → Type 0
 IsShownOf bytes number front = (line : Bytes) × IsLineAt (take 16777216 bytes) number line × (front ≡ take 160 line)
 
 -- What each reason says. The bad line is the one that the script's reader tells, with its first bytes; the store wasn't opened for this cause, which isn't want of memory, with the
--- configuration that the words ask for; and where an answer is the reason, each line was answered, and one tells of a change that failed or wasn't made, or of a read that wasn't answered.
+-- configuration that the words ask for; and where an answer is the reason, each line was answered, and of the lines printed the one of this number, from 1 on, is the first that tells of a
+-- change that failed or wasn't made, or of a read that wasn't answered.
 abbrev pub IsWhy : Run → Reason → Type 0
 IsWhy run reason.Nothing = EndsWith run Answered
 IsWhy run reason.Words = EndsWith run BadWords
@@ -45,23 +47,11 @@ IsWhy run reason.Source = EndsWith run ReadFault
 IsWhy run reason.Sink = EndsWith run WriteFault
 IsWhy run (reason.NotOpened why asked) = Asks run asked × Refuses run asked why × (why ≡ open_why.NoMemory → ⊥)
 IsWhy run reason.NoMemory = EndsWith run NoMemory
-IsWhy run reason.Answer = (config : Fields) × Asks run config × ends.Answered run config true
+IsWhy run (reason.Answer line) = (config : Fields) × Asks run config × (all : ends.Answered run config true) × IsFirstRefusal all.lines line
 
 -- the run ended with this status for this reason
 abbrev pub IsReasonOf : Run → ℕ → Reason → Type 0
 IsReasonOf run status why = (status ≡ code_of (status_of why)) × IsWhy run why
-
--- why a script ended so that was carried out; it has no other end
-abbrev pub after_script : Status → Reason
-after_script Answered = reason.Nothing
-after_script Refused = reason.Answer
-after_script WriteFault = reason.Sink
-after_script NoMemory = reason.NoMemory
-after_script BadWords = reason.Nothing
-after_script BadScript = reason.Nothing
-after_script ReadFault = reason.Nothing
-after_script Damaged = reason.Nothing
-after_script OtherConfig = reason.Nothing
 
 -- the text was written and this is the reason, or the sink failed behind a front of it
 abbrev pub Says : Reason → Bytes → Option Bytes → Option Bytes → Type 0 → Reason → Type 0

@@ -1,5 +1,5 @@
 -- How a script ends that is carried out over a store.
-use Rattle.std.specs.Prelude.{◌≡◌, ℕ, Bool, true, false, List, take, Option}
+use Rattle.std.specs.Prelude.{ℕ, suc, List, [], ◌∷◌, ◌++◌, length, take, Option, Some, None}
 use Rattle.std.specs.Io.KnownBytes.{Appends}
 use Rattle.lethe_wire.specs.Causes.{AppendsFront}
 use Rattle.lethe_base.specs.Keys.{Bytes}
@@ -7,13 +7,16 @@ use Rattle.lethe_disk.specs.Disk.{Seen}
 use Rattle.lethe_core.specs.View.{View}
 use Rattle.lethe_script.specs.declared.order.Order.{Order}
 use Rattle.lethe_run.specs.declared.reply.Line.{Line}
-use Rattle.lethe_run.specs.declared.status.Status.{Status}
-use Rattle.lethe_run.specs.declared.status.Status.TheVariants.{Answered, BadWords, BadScript, ReadFault, WriteFault, Refused, NoMemory, Damaged, OtherConfig}
+use Rattle.lethe_run.specs.declared.reason.Reason.{Reason}
+use Rattle.lethe_run.specs.declared.reason.Reason.TheVariants.{Nothing, Words, Source, Sink, NotOpened, NoMemory, Answer}
+use Rattle.lethe_run.specs.declared.reason.Reason.TheVariants as reason
 use Rattle.lethe_run.specs.Anywhere.{AreToldThrough, Standing, standing_of}
 use Rattle.lethe_run.specs.Ends.{IsBegun}
+use Rattle.lethe_run.specs.Printed.{lines_text}
+use Rattle.lethe_run.specs.Refusals.{IsFirstOr, all_of}
 use Rattle.lethe_run.specs.Serving.{IsOn, IsCarried, Point}
 use Rattle.lethe_run.specs.Slots.{no_slots}
-use Rattle.lethe_run.specs.Transcript.{Start, course, text_of, has_refusal}
+use Rattle.lethe_run.specs.Transcript.{Start, course, text_of}
 
 -- the lines answer these phases, over each history for which the store stands, from each start of the run on
 abbrev pub Serves : Type 0 → Type 0 → View → Seen → ℕ → List (List Order) → List (List Line) → Type 0
@@ -24,21 +27,21 @@ Serves Tells PortsFail start finish now phases lines =
 abbrev pub IsToldFrom : Type 0 → View → ℕ → List (List Order) → List (List Line) → Type 0
 IsToldFrom PortsFail start now phases lines = (end : Standing) × AreToldThrough PortsFail start.faults now phases (standing_of start no_slots) lines end
 
--- all phases were answered
-pub record All (Tells PortsFail : Type 0) (start : View) (finish : Seen) (now : ℕ) (old new : Option Bytes) (phases : List (List Order)) (refused : Bool) : Type 0 where
+-- all phases were answered, and this is the number of the first line that tells of a change that failed or wasn't made, or of a read that wasn't answered, if one does
+pub record All (Tells PortsFail : Type 0) (start : View) (finish : Seen) (now : ℕ) (old new : Option Bytes) (phases : List (List Order)) (refused : Option ℕ) : Type 0 where
   pub lines : List (List Line)
   pub told : IsToldFrom PortsFail start now phases lines
   pub served : Serves Tells PortsFail start finish now phases lines
   pub written : Appends old new (text_of lines)
-  pub is : has_refusal lines ≡ refused
+  pub first : IsFirstOr (all_of lines) refused
 
--- some were, and the sink failed in the lines of the last of them
+-- some were, and the sink failed in the lines of the last of them; those of the phases before it were written whole
 pub record Behind (Tells PortsFail : Type 0) (start : View) (finish : Seen) (now : ℕ) (old new : Option Bytes) (phases : List (List Order)) : Type 0 where
-  pub lines : List (List Line)
-  pub count : ℕ
-  pub told : IsToldFrom PortsFail start now (take count phases) lines
-  pub served : Serves Tells PortsFail start finish now (take count phases) lines
-  pub written : AppendsFront old new (text_of lines)
+  pub before : List (List Line)
+  pub last : List Line
+  pub told : IsToldFrom PortsFail start now (take (suc (length before)) phases) (before ++ last ∷ [])
+  pub served : Serves Tells PortsFail start finish now (take (suc (length before)) phases) (before ++ last ∷ [])
+  pub whole : (middle : Option Bytes) × Appends old middle (text_of before) × AppendsFront middle new (lines_text last)
 
 -- none were, or some, and of the next one the first orders
 pub record Inside (Tells PortsFail : Type 0) (start : View) (finish : Seen) (now : ℕ) (old new : Option Bytes) (phases : List (List Order)) : Type 0 where
@@ -49,25 +52,28 @@ pub record Inside (Tells PortsFail : Type 0) (start : View) (finish : Seen) (now
   pub served : Serves Tells PortsFail start finish now front lines
   pub written : AppendsFront old new (text_of lines)
 
-abbrev pub ScriptEnds : Type 0 → Type 0 → View → Seen → ℕ → Option Bytes → Option Bytes → Type 0 → List (List Order) → Status → Type 0
-ScriptEnds Tells PortsFail start finish now old new SinkRose phases Answered = All Tells PortsFail start finish now old new phases false
-ScriptEnds Tells PortsFail start finish now old new SinkRose phases Refused = All Tells PortsFail start finish now old new phases true
-ScriptEnds Tells PortsFail start finish now old new SinkRose phases WriteFault = SinkRose × Behind Tells PortsFail start finish now old new phases
+-- why a script ends all of whose lines were answered
+abbrev pub reason_for : Option ℕ → Reason
+reason_for None = Nothing
+reason_for (Some line) = Answer line
+
+abbrev pub ScriptEnds : Type 0 → Type 0 → View → Seen → ℕ → Option Bytes → Option Bytes → Type 0 → List (List Order) → Reason → Type 0
+ScriptEnds Tells PortsFail start finish now old new SinkRose phases Nothing = All Tells PortsFail start finish now old new phases None
+ScriptEnds Tells PortsFail start finish now old new SinkRose phases (Answer line) = All Tells PortsFail start finish now old new phases (Some line)
+ScriptEnds Tells PortsFail start finish now old new SinkRose phases Sink = SinkRose × Behind Tells PortsFail start finish now old new phases
 ScriptEnds Tells PortsFail start finish now old new SinkRose phases NoMemory = Inside Tells PortsFail start finish now old new phases
-ScriptEnds Tells PortsFail start finish now old new SinkRose phases BadWords = ⊥
-ScriptEnds Tells PortsFail start finish now old new SinkRose phases BadScript = ⊥
-ScriptEnds Tells PortsFail start finish now old new SinkRose phases ReadFault = ⊥
-ScriptEnds Tells PortsFail start finish now old new SinkRose phases Damaged = ⊥
-ScriptEnds Tells PortsFail start finish now old new SinkRose phases OtherConfig = ⊥
+ScriptEnds Tells PortsFail start finish now old new SinkRose phases Words = ⊥
+ScriptEnds Tells PortsFail start finish now old new SinkRose phases (reason.Line bad text) = ⊥
+ScriptEnds Tells PortsFail start finish now old new SinkRose phases Source = ⊥
+ScriptEnds Tells PortsFail start finish now old new SinkRose phases (NotOpened why asked) = ⊥
 
 -- why the lines of a phase aren't all printed: there was no memory for them, or the sink failed
-abbrev pub IsCutBy : Type 0 → Type 0 → Status → Type 0
+abbrev pub IsCutBy : Type 0 → Type 0 → Reason → Type 0
 IsCutBy Whole SinkRose NoMemory = Unit {0}
-IsCutBy Whole SinkRose WriteFault = Whole × SinkRose
-IsCutBy Whole SinkRose Answered = ⊥
-IsCutBy Whole SinkRose Refused = ⊥
-IsCutBy Whole SinkRose BadWords = ⊥
-IsCutBy Whole SinkRose BadScript = ⊥
-IsCutBy Whole SinkRose ReadFault = ⊥
-IsCutBy Whole SinkRose Damaged = ⊥
-IsCutBy Whole SinkRose OtherConfig = ⊥
+IsCutBy Whole SinkRose Sink = Whole × SinkRose
+IsCutBy Whole SinkRose Nothing = ⊥
+IsCutBy Whole SinkRose (Answer line) = ⊥
+IsCutBy Whole SinkRose Words = ⊥
+IsCutBy Whole SinkRose (reason.Line bad text) = ⊥
+IsCutBy Whole SinkRose Source = ⊥
+IsCutBy Whole SinkRose (NotOpened why asked) = ⊥

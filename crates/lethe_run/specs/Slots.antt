@@ -1,5 +1,5 @@
 -- What a caller's slots hold.
-use Rattle.std.specs.Prelude.{◌≡◌, ◌≤◌, ℕ, ◌+◌, List, length, replicate, filter_map, slice_index_or, slice_set, All, Contains, Option, Some, None}
+use Rattle.std.specs.Prelude.{◌≡◌, ◌≤◌, ◌<◌, ℕ, ◌+◌, List, length, replicate, filter_map, slice_index_or, slice_set, All, Contains, Option, Some, None}
 use Rattle.lethe_base.specs.Keys.{Bytes}
 use Rattle.lethe_script.specs.declared.order.Act.{Act}
 use Rattle.lethe_script.specs.declared.order.Act.TheVariants as acts
@@ -50,9 +50,10 @@ InSlots act (Unpinned point number) s t = (slot : ℕ) × (act ≡ acts.Unpin sl
 -- a pin bars it that is held, of the least limit
 InSlots act (Barred number limit) s t =
     (pin : Pin) × Contains (pins_of s) pin × (pin.number ≡ number) × (pin.limit ≡ limit) × All (λ other. limit ≤ other.limit) (pins_of s) × (t ≡ s)
+-- a tick that is done is below the limit of each pin that is held
+InSlots act (Ticked ticked) s t = All (λ pin. ticked.clock < pin.limit) (pins_of s) × (t ≡ s)
 InSlots act (Counted point stat) s t = (stat.pins ≡ length (pins_of s)) × (t ≡ s)
 InSlots act (Done place) s t = t ≡ s
-InSlots act (Ticked ticked) s t = t ≡ s
 InSlots act (Got point found) s t = t ≡ s
 InSlots act (Scanned point pairs) s t = t ≡ s
 InSlots act (Fault place before after) s t = t ≡ s

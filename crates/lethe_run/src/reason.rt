@@ -1,6 +1,6 @@
 //! Why a run ended as it did.
 ghost use Rattle.std.specs.Prelude.{◌≡◌};
-ghost use Rattle.lethe_run.specs.Reasons.{after_script, status_of};
+ghost use Rattle.lethe_run.specs.Reasons.{status_of};
 
 use crate::status::Status;
 use lethe_base::{Config, List};
@@ -30,8 +30,11 @@ pub enum Reason {
     },
     /// There was no memory.
     NoMemory,
-    /// Each line was answered, and an answer tells of a change that failed or wasn't made, or of a read that wasn't answered.
-    Answer,
+    /// Each line was answered. The line that was printed as this one, counted from 1, is the first that tells of a change that failed or wasn't made, or of a read that
+    /// wasn't answered.
+    Answer {
+        line: u64,
+    },
 }
 
 impl Reason {
@@ -47,20 +50,7 @@ impl Reason {
             Reason::Sink => Status::WriteFault,
             Reason::NotOpened { why, .. } => Status::of_opening(why),
             Reason::NoMemory => Status::NoMemory,
-            Reason::Answer => Status::Refused,
-        }
-    }
-
-    /// Why a script ended so that was carried out.
-    pub(crate) fn of_script(status: Status) -> Reason
-        ensures { result ≡ after_script status }
-    {
-        match status {
-            Status::Refused => Reason::Answer,
-            Status::WriteFault => Reason::Sink,
-            Status::NoMemory => Reason::NoMemory,
-            // A script has no other end than this one.
-            _ => Reason::Nothing,
+            Reason::Answer { .. } => Status::Refused,
         }
     }
 }

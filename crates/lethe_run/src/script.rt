@@ -1,24 +1,24 @@
 //! Carrying out a script over a store.
-ghost use Rattle.std.specs.Prelude.{◌≡◌, ◌≤◌, ◌+◌, ◌||◌, None, length, replicate, flat_map, sum_by, IsTrue, IfErr, OnOk, if◌then◌else◌};
+ghost use Rattle.std.specs.Prelude.{◌≡◌, ◌≤◌, ◌<◌, ◌+◌, ◌++◌, List, None, length, position, replicate, flat_map, sum_by, IsTrue, IfErr, IfSome, OnOk};
 ghost use Rattle.std.specs.Io.KnownBytes.{Appends};
 ghost use Rattle.lethe_wire.specs.Causes.{AppendsFront};
-ghost use Rattle.std.specs.List.{list_any};
 ghost use Rattle.lethe_base.specs.Counts.{Rose};
 ghost use Rattle.lethe_base.specs.Limits.{max_place};
 ghost use Rattle.lethe_core.specs.Running.{IsSound};
 ghost use Rattle.lethe_core.specs.View.{view_of};
 ghost use Rattle.lethe_script.specs.Slots.{AreSlotted};
 ghost use Rattle.lethe_run.specs.Holding.{HoldsPins};
-ghost use Rattle.lethe_run.specs.Scripts.{ScriptEnds, IsCutBy};
+ghost use Rattle.lethe_run.specs.Refusals.{IsFirstOr};
+ghost use Rattle.lethe_run.specs.Scripts.{ScriptEnds, IsCutBy, reason_for};
 ghost use Rattle.lethe_run.specs.Printed.{lines_text};
 ghost use Rattle.lethe_run.specs.Slots.{no_slots};
 ghost use Rattle.lethe_run.specs.Transcript.{is_refusal};
 
 use crate::print::{Spelled, spell};
+use crate::reason::Reason;
 use crate::reply::{Line, Reply};
 use crate::serve::{Served, serve_phase};
 use crate::slots::Slots;
-use crate::status::Status;
 use lethe_base::{List, NoMemory};
 use lethe_disk::Disk;
 use lethe_engine::Engine;
@@ -32,7 +32,7 @@ pub(crate) fn serve_script<K: Sink, D: Disk>(
     sink: &mut K,
     phases: List<List<Order>>,
     mut engine: Engine<D>,
-) -> (Status, D)
+) -> (Reason, D)
     requires sound { IsSound D.tells (view_of engine.core) }
     requires rounds { engine.core.begun.rounds + sum_by length phases ≤ max_place }
     requires made { engine.core.pins.made + sum_by length phases ≤ max_place }
@@ -46,9 +46,9 @@ pub(crate) fn serve_script<K: Sink, D: Disk>(
     match engine.new_port(alloc) {
         Ok(port) => match Slots::new(alloc) {
             Ok(slots) => serve_phases(alloc, sink, phases, engine, port, slots),
-            Err(NoMemory) => (Status::NoMemory, engine.into_disk()),
+            Err(NoMemory) => (Reason::NoMemory, engine.into_disk()),
         },
-        Err(NoMemory) => (Status::NoMemory, engine.into_disk()),
+        Err(NoMemory) => (Reason::NoMemory, engine.into_disk()),
     }
 }
 
@@ -60,7 +60,7 @@ fn serve_phases<K: Sink, D: Disk>(
     mut engine: Engine<D>,
     mut port: D::Port,
     mut slots: Slots<D>,
-) -> (Status, D)
+) -> (Reason, D)
     requires sound { IsSound D.tells (view_of engine.core) }
     requires rounds { engine.core.begun.rounds + sum_by length phases ≤ max_place }
     requires made { engine.core.pins.made + sum_by length phases ≤ max_place }
@@ -72,19 +72,21 @@ fn serve_phases<K: Sink, D: Disk>(
         (K.taken sink.old) (K.taken sink.new) (Rose (K.faults sink.old) (K.faults sink.new)) phases result.0 }
     ensures faults { D.faults engine.core.disk ≤ D.faults result.1 }
 {
-    let mut refused = false;
+    let mut refused = None;
+    let mut printed: u64 = 0;
     for orders in phases.into_vec() {
         let served = serve_phase(&mut engine, alloc, &mut port, &mut slots, orders.into_vec());
-        refused = has_refusal(refused, &served.lines);
-        if let Err(status) = print_phase(alloc, sink, &served) {
-            return (status, slots.hand_back(engine));
+        if let Err(why) = print_phase(alloc, sink, &served) {
+            return (why, slots.hand_back(engine));
         }
+        refused = first_refusal(refused, printed, &served.lines);
+        printed += served.lines.len() as u64;
     }
-    (status_of(refused), slots.hand_back(engine))
+    (reason_for(refused), slots.hand_back(engine))
 }
 
 /// Prints the lines of a phase. What was written is a front of them, whatever it answers.
-fn print_phase<K: Sink>(alloc: Global, sink: &mut K, served: &Served) -> Result<(), Status>
+fn print_phase<K: Sink>(alloc: Global, sink: &mut K, served: &Served) -> Result<(), Reason>
     ensures front { AppendsFront (K.taken sink.old) (K.taken sink.new) (lines_text served.now.lines.items) }
     ensures ok { OnOk result (IsTrue served.now.whole × Appends (K.taken sink.old) (K.taken sink.new) (lines_text served.now.lines.items)) }
     ensures err { IfErr result (IsCutBy (IsTrue served.now.whole) (Rose (K.faults sink.old) (K.faults sink.new))) }
@@ -93,42 +95,48 @@ fn print_phase<K: Sink>(alloc: Global, sink: &mut K, served: &Served) -> Result<
     let Spelled { text, whole } = spell(alloc, &served.lines);
     let written = write_all(sink, &text);
     if !served.whole {
-        return Err(Status::NoMemory);
+        return Err(Reason::NoMemory);
     }
     if !whole {
-        return Err(Status::NoMemory);
+        return Err(Reason::NoMemory);
     }
     match written {
         Ok(()) => Ok(()),
-        Err(_) => Err(Status::WriteFault),
+        Err(_) => Err(Reason::Sink),
     }
 }
 
-/// How a script ends all of whose lines were answered.
-fn status_of(refused: bool) -> Status
-    ensures { result ≡ (if refused then Status.Refused else Status.Answered) }
+/// Why a script ends all of whose lines were answered.
+fn reason_for(refused: Option<u64>) -> Reason
+    ensures { result ≡ reason_for refused }
 {
-    if refused {
-        Status::Refused
-    } else {
-        Status::Answered
+    match refused {
+        Some(line) => Reason::Answer { line },
+        None => Reason::Nothing,
     }
 }
 
-/// Whether one of the lines, or one before, tells of a change that failed or wasn't made, or of a read that wasn't answered.
-fn has_refusal(before: bool, lines: &[Line]) -> bool
-    ensures { result ≡ (before || list_any is_refusal lines.now) }
+/// The number of the first line that tells of a change that failed or wasn't made, or of a read that wasn't answered: of those before, of which so many were printed, or of these.
+fn first_refusal(before: Option<u64>, printed: u64, lines: &[Line]) -> Option<u64>
+    requires { printed + length lines.now ≤ max_place }
+    ensures { (so_far : List Line) → length so_far ≡ printed → IsFirstOr so_far before → IsFirstOr (so_far ++ lines.now) result }
 {
-    before || any_refusal(lines)
+    if before.is_some() {
+        return before;
+    }
+    let index = refusal_in(lines)?;
+    Some(printed + index as u64 + 1)
 }
 
-fn any_refusal(lines: &[Line]) -> bool
-    ensures { result ≡ list_any is_refusal lines.now }
+/// Where the first of the lines stands that tells so.
+fn refusal_in(lines: &[Line]) -> Option<usize>
+    ensures within { IfSome result (λ index. index < length lines.now) }
+    ensures first { result ≡ position is_refusal lines.now }
 {
-    lines.iter().any(|line| is_refusal(line))
+    lines.iter().position(|line| is_refusal(line))
 }
 
-/// Whether it does.
+/// Whether a line tells so.
 fn is_refusal(line: &Line) -> bool
     ensures { result ≡ is_refusal line.now }
 {

@@ -170,10 +170,7 @@ fn carry_out<S: Source, K: Sink, D: Disk>(
         Err(ScriptRefused::NoMemory) => return (Reason::NoMemory, disk),
     };
     match open_store(alloc, disk, &config) {
-        Ok(engine) => {
-            let (status, disk) = serve_script(alloc, sink, script.phases, engine);
-            (Reason::of_script(status), disk)
-        }
+        Ok(engine) => serve_script(alloc, sink, script.phases, engine),
         Err(OpenRefused { disk, why }) => (tell(alloc, sink, config, why), disk),
     }
 }

@@ -4,7 +4,7 @@ use crate::shown::reads;
 use lethe_base::{Fields, Kind, Name, NoMemory, Pick};
 use lethe_reasons::{
     Message, damaged, no_memory, open_exhausted, open_fault, other_config, refused_answer,
-    sink_failed, source_failed,
+    refused_call, sink_failed, source_failed,
 };
 use std::alloc::Global;
 
@@ -88,8 +88,14 @@ fn an_end_has_its_reason(rt: HostRuntime) {
     );
     assert!(rt;
         reads(
-            refused_answer(alloc),
-            b"an answer tells of a change that failed or wasn't made, or of a read that wasn't answered: fault, stopped, exhausted, readfault or damaged (docs/GUIDE.md, When something goes wrong)"
+            refused_answer(alloc, 3),
+            b"line 3 of the output is the first that tells of a change that failed or wasn't made, or of a read that wasn't answered: fault, stopped, exhausted, readfault or damaged (docs/GUIDE.md, When something goes wrong)"
+        )
+    );
+    assert!(rt;
+        reads(
+            refused_call(alloc),
+            b"a change failed or wasn't made, or a read wasn't answered (docs/GUIDE.md, When something goes wrong)"
         )
     );
 }

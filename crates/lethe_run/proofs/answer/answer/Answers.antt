@@ -23,7 +23,7 @@ use Rattle.lethe_run.proofs.Looks.{looked_up, reads, read_answer, stat_answer, u
 use Rattle.lethe_run.proofs.Outcomes.{Outcome, ok_of, err_of, or_same}
 use Rattle.lethe_run.proofs.Shorts.{few_frozen}
 use Rattle.lethe_run.proofs.Steps.{changes}
-use Rattle.lethe_run.proofs.Ticking.{of_tick, tick_tells, ticks}
+use Rattle.lethe_run.proofs.Ticking.{all_pass, of_tick, tick_tells, ticks}
 use Rattle.lethe_run.proofs.answer.answer.Goals as goal
 
 pub returns-in-Put-clause-served : goal.returns-in-Put-clause-served
@@ -292,6 +292,8 @@ returns-in-Tick-clause-told g c =
     subst (λ r. Tells Ports c.args.act r old before new behind) (sym c.ticked.ensures)
     (subst (λ a. Tells Ports a (tick_reply_of c.count-point.result c.tick.result) old before new behind) (sym (c.in-Tick.is ∙ ap acts.Tick (sym c.get-in-Tick.ensures.number)))
     (tick_tells to old new g.D.Disk.tells Ports c.count-point.result c.count-point.ensures before behind kept c.requires.pins c.requires.sound.pins (g.D.Disk.port_faults c.args.port.now) (g.D.Disk.port_faults c.tick.new.port) c.tick.result
+    (all_pass to old new c.requires.sound.pins c.requires.sound.writable.count c.requires.rounds c.tick.result (λ at was. (c.tick.ensures.stopped at was).0) (λ runs ahead. (c.tick.ensures.backwards runs ahead).0)
+    (λ runs forward full. (c.tick.ensures.exhausted runs forward full).0) (λ may pin limit first reached. (c.tick.ensures.pinned may pin limit first reached).0))
     c.tick.ensures.answers c.tick.ensures.place c.tick.ensures.why (λ at was. (c.tick.ensures.stopped at was).0)))
 
 pub returns-in-Tick-clause-pins : goal.returns-in-Tick-clause-pins

@@ -1,7 +1,7 @@
-use Rattle.std.proofs.Common.{rules, ◌≡◌, ◌||◌, ◌++◌, length, ◌∷◌, [], Some, refl, sym, ap, ◌∙◌, subst, arith}
+use Rattle.std.proofs.Common.{rules, ◌≡◌, ◌++◌, length, ◌∷◌, [], Some, refl, sym, ap, ◌∙◌, subst, arith, append-nil}
 use Rattle.std.specs.Prelude.{IsSome}
-use Rattle.std.specs.List.{flat_map, list_any, sum_by}
-use Rattle.std.proofs.lemmas.List.{map-id}
+use Rattle.std.specs.List.{flat_map, sum_by}
+use Rattle.std.proofs.lemmas.List.{length-append, map-id}
 use Rattle.std.proofs.lemmas.List.Sums.{sum_by-append, sum_by-cons, sum_by_push}
 use Rattle.std.proofs.lemmas.Iterator.Consumers.{YieldsList-end}
 use Rattle.std.proofs.lemmas.Iterator.Adapters.{YieldsList-from_vec}
@@ -9,12 +9,14 @@ use Rattle.lethe_base.specs.Counts.{Rose}
 use Rattle.lethe_core.specs.View.{view_of}
 use Rattle.lethe_script.specs.declared.order.Order.{Order}
 use Rattle.lethe_script.specs.Slots.{held_through, none_held}
+use Rattle.lethe_run.specs.Anywhere.{standing_of}
+use Rattle.lethe_run.specs.Refusals.{IsFirstOr, all_of}
 use Rattle.lethe_run.specs.Holding.{AreShown, HoldsPins, held_in, slots_of}
 use Rattle.lethe_run.specs.Scripts.{ScriptEnds}
-use Rattle.lethe_run.specs.Transcript.{is_refusal}
 use Rattle.lethe_run.proofs.Endings.{Phase, Before, before_any, next_so_far, cut_ends, all_ends}
 use Rattle.lethe_run.proofs.Holding.{first_slots, none_shown}
-use Rattle.lethe_run.proofs.Phases.{appends_none, whole_text, front_text, refusal_more}
+use Rattle.lethe_run.proofs.Phases.{appends_none, whole_text}
+use Rattle.lethe_run.proofs.Refusals.{all_more, lines_many}
 use Rattle.lethe_run.proofs.Runs.{taken_next}
 use Rattle.lethe_run.proofs.Slotted.{flat_more, flat_parts, part_finds, part_holds}
 use Rattle.lethe_run.proofs.script.serve_phases.Goals as goal
@@ -30,11 +32,13 @@ loop-orders-init g c =
       faults = omega arith;
       rounds = omega arith;
       made = omega arith;
+      printed = refl;
       pins = subst (HoldsPins old) (sym first) c.requires.pins;
       slotted = ap (λ held. Some (held_in held)) (sym c.requires.none);
       lines = (
         [],
         appends_none (g.K.Sink.taken c.args.sink.now),
+        refl,
         refl,
         before_any g.D.Disk.tells g.D.Disk.ports_fail old (slots_of old held) (λ h. AreShown h held) first (λ h. none_shown h held c.requires.none),
       );
@@ -71,6 +75,12 @@ loop-orders-preserved g c =
           let size = ap length c.into_vec.ensures in
           let more = sum_by_push (length {A = Order}) c.loop-orders.yielded c.in-Some.orders in
           omega (arith, before, step, size, more);
+      printed =
+          let before = c.loop-orders.invariant.printed in
+          let lines = lines_many g.D.Disk.ports_fail mid.faults new.faults phase.0 (standing_of mid between) more (standing_of new behind) phase.4 in
+          let all = ap length (phase.2 ∙ ap (λ rest. phase.0 ++ rest) (phase.3 c.in_default.ensures.ok.0) ∙ append-nil phase.0) in
+          let orders = sum_by_push (length {A = Order}) c.loop-orders.yielded c.in-Some.orders in
+          omega (arith, before, lines, all, orders);
       pins = c.serve_phase-served.ensures.pins;
       slotted =
           ap (λ orders. held_through orders none_held) (flat_more c.loop-orders.yielded c.in-Some.orders)
@@ -79,9 +89,10 @@ loop-orders-preserved g c =
       lines = (
         so_far.0 ++ more ∷ [],
         whole_text (g.K.Sink.taken c.args.sink.now) (g.K.Sink.taken c.loop-orders.sink) (g.K.Sink.taken c.print_phase.new.sink) so_far.0 more so_far.1 c.in_default.ensures.ok.1,
-        refusal_more so_far.0 more ∙ ap (λ b. b || list_any is_refusal more) so_far.2 ∙ sym (search rules),
+        subst (λ all. IsFirstOr all c.first_refusal.result) (sym (all_more so_far.0 more)) (c.first_refusal.ensures (all_of so_far.0) so_far.3 so_far.2),
+        (let size = so_far.3 in let step = ap length (all_more so_far.0 more) ∙ length-append (all_of so_far.0) more in omega (arith, size, step)),
         next_so_far g.D.Disk.tells g.D.Disk.ports_fail old new (λ told. laws.itself told c.serve_phase-served.new.engine.core.disk) behind (λ h. AreShown h held) mid between (λ h. AreShown h was) c.loop-orders.invariant.faults c.serve_phase-served.ensures.faults (c.loop-orders.yielded ++ c.in-Some.orders ∷ []) c.loop-orders.yielded [] c.in-Some.orders refl so_far.0 more
-            whole so_far.3 phase c.in_default.ensures.ok.0,
+            whole so_far.4 phase c.in_default.ensures.ok.0,
       );
     }
 
@@ -109,10 +120,9 @@ returns-in-Err-clause-ends g c =
     let rest = c.next.new.self.rest.items in
     let are : c.args.phases ≡ c.loop-orders.yielded ++ c.in-Some.orders ∷ rest =
     taken_next c.args.phases c.into_iter-orders-iterator.result c.loop-orders.yielded c.loop-orders.orders-iterator c.in-Some.orders rest (c.into_iter-orders-iterator.ensures.into_iter_gives.0 ∙ c.into_vec-orders-items.ensures) c.loop-orders.yielded_by c.in-Some.ensures.steps.0 in
-    subst (λ d. ScriptEnds g.D.Disk.tells g.D.Disk.ports_fail old (g.D.Disk.seen d) (g.D.Disk.faults d) t0 t2 (Rose s0 s2) c.args.phases c.in-Err.status) (sym c.hand_back.ensures)
+    subst (λ d. ScriptEnds g.D.Disk.tells g.D.Disk.ports_fail old (g.D.Disk.seen d) (g.D.Disk.faults d) t0 t2 (Rose s0 s2) c.args.phases c.in-Err.why) (sym c.hand_back.ensures)
     (cut_ends g.D.Disk.tells g.D.Disk.ports_fail old new (λ told. laws.itself told c.serve_phase-served.new.engine.core.disk) behind (λ h. AreShown h held) mid between (λ h. AreShown h was) c.loop-orders.invariant.faults c.serve_phase-served.ensures.faults c.args.phases c.loop-orders.yielded rest c.in-Some.orders are so_far.0 more
-    whole so_far.3 phase t0 t2 (Rose s1 s2) (Rose s0 s2) c.in-Err.status (λ rose. omega (arith, rose, low))
-    (front_text t0 (g.K.Sink.taken c.loop-orders.sink) t2 so_far.0 more so_far.1 c.print_phase.ensures.front) c.in-Err.ensures.err)
+    whole so_far.4 phase t0 (g.K.Sink.taken c.loop-orders.sink) t2 (Rose s1 s2) (Rose s0 s2) c.in-Err.why (λ rose. omega (arith, rose, low)) so_far.1 c.print_phase.ensures.front c.in-Err.ensures.err)
 
 pub returns-clause-ends : goal.returns-clause-ends
 returns-clause-ends g c =
@@ -128,10 +138,10 @@ returns-clause-ends g c =
     let s1 = g.K.Sink.faults c.loop-orders.sink in
     let t0 = g.K.Sink.taken c.args.sink.now in
     let t1 = g.K.Sink.taken c.loop-orders.sink in
-    subst (λ d. ScriptEnds g.D.Disk.tells g.D.Disk.ports_fail old (g.D.Disk.seen d) (g.D.Disk.faults d) t0 t1 (Rose s0 s1) c.args.phases c.status_of.result) (sym c.hand_back-2.ensures)
-    (subst (λ st. ScriptEnds g.D.Disk.tells g.D.Disk.ports_fail old mid.disk mid.faults t0 t1 (Rose s0 s1) c.args.phases st) (sym c.status_of.ensures)
+    subst (λ d. ScriptEnds g.D.Disk.tells g.D.Disk.ports_fail old (g.D.Disk.seen d) (g.D.Disk.faults d) t0 t1 (Rose s0 s1) c.args.phases c.reason_for.result) (sym c.hand_back-2.ensures)
+    (subst (λ st. ScriptEnds g.D.Disk.tells g.D.Disk.ports_fail old mid.disk mid.faults t0 t1 (Rose s0 s1) c.args.phases st) (sym c.reason_for.ensures)
     (all_ends g.D.Disk.tells g.D.Disk.ports_fail old mid (λ told. laws.itself told c.loop-orders.engine.core.disk) (slots_of mid held) (λ h. AreShown h held) c.args.phases so_far.0 t0 t1 (Rose s0 s1) c.loop-orders.refused
-    (subst (λ p. Before g.D.Disk.tells g.D.Disk.ports_fail old mid (slots_of mid held) (λ h. AreShown h held) p so_far.0) whole so_far.3) so_far.1 so_far.2))
+    (subst (λ p. Before g.D.Disk.tells g.D.Disk.ports_fail old mid (slots_of mid held) (λ h. AreShown h held) p so_far.0) whole so_far.4) so_far.1 so_far.2))
 
 pub serve_phase-served-requires-clause-rounds : goal.serve_phase-served-requires-clause-rounds
 serve_phase-served-requires-clause-rounds g c =

@@ -5,8 +5,9 @@ use Rattle.lethe_core.specs.Running.{IsSound}
 use Rattle.lethe_core.specs.View.{view_of}
 use Rattle.lethe_script.specs.Slots.{held_through, none_held}
 use Rattle.lethe_run.specs.declared.reply.Line.{Line}
+use Rattle.lethe_run.specs.Refusals.{IsFirstOr, all_of}
 use Rattle.lethe_run.specs.Holding.{AreShown, HoldsPins, held_in, slots_of}
-use Rattle.lethe_run.specs.Transcript.{text_of, has_refusal}
+use Rattle.lethe_run.specs.Transcript.{text_of}
 use Rattle.lethe_run.proofs.Endings.{Before}
 use Rattle.lethe_run.proofs.script.serve_phases.Given as goal
 
@@ -22,8 +23,9 @@ invariant-loop-orders g l =
       faults : old.faults ≤ now.faults;
       rounds : now.rounds ≤ old.rounds + sum_by length l.yielded;
       made : now.pins.made ≤ old.pins.made + sum_by length l.yielded;
+      printed : l.printed ≡ sum_by length l.yielded;
       pins : HoldsPins now (slots_of now held);
       slotted : held_through (flat_map (λ orders. orders) l.yielded) none_held ≡ Some (held_in held);
-      lines : (lines : List (List Line)) × Appends (g.K.Sink.taken l.fn.sink) (g.K.Sink.taken l.sink) (text_of lines) × (has_refusal lines ≡ l.refused)
+      lines : (lines : List (List Line)) × Appends (g.K.Sink.taken l.fn.sink) (g.K.Sink.taken l.sink) (text_of lines) × IsFirstOr (all_of lines) l.refused × (length (all_of lines) ≡ l.printed)
           × Before g.D.Disk.tells g.D.Disk.ports_fail old now (slots_of now held) (λ h. AreShown h held) l.yielded lines;
     }

@@ -4,7 +4,6 @@ use Rattle.lethe_script.specs.Grammar.{script_of}
 use Rattle.lethe_script.specs.Reading.{FailsScript}
 use Rattle.lethe_disk.proofs.Quieting.{quiet_itself}
 use Rattle.lethe_core.specs.View.{view_of}
-use Rattle.lethe_run.specs.Reasons.{IsWhy}
 use Rattle.lethe_run.proofs.Ending.{keeps_still, said_bad_words, said_bad_script, said_not_opened, script_ended, on_script, no_script, drawn_by}
 use Rattle.lethe_run.proofs.Fronts.{shown_all}
 use Rattle.lethe_run.proofs.Holding.{fresh_holds}
@@ -38,11 +37,11 @@ returns-in-Err-Bad g c =
 pub returns-in-Ok-open_store : goal.returns-in-Ok-open_store
 returns-in-Ok-open_store g c =
     let laws = g.met.D.Disk g.world.𝓛 g.world.𝓜 g.world.𝓡 ((λ s x. x), (λ x. x), (λ x. x), λ x. x) in
-    subst (IsWhy _) (sym c.of_script.ensures) (script_ended _ c.in-Some.config (sym c.in-Some.ensures) c.in-Ok-read_script.script.phases
+    script_ended _ c.in-Some.config (sym c.in-Some.ensures) c.in-Ok-read_script.script.phases
     (λ P p. on_script (g.S.Source.left c.args.source.now) c.in-Ok.bytes.items c.in-Ok-read_script.script.phases P c.in-Ok.ensures.ok (ap script_of (sym c.deref.ensures.value) ∙ c.in-Ok-read_script.ensures.script) p)
     (view_of c.in-Ok-open_store.engine.core) c.in-Ok-open_store.ensures.faults c.in-Ok-open_store.ensures.runs c.in-Ok-open_store.ensures.resumed c.in-Ok-open_store.ensures.any_moment c.in-Ok-open_store.ensures.exact
     (λ told. laws.itself told c.args.disk) c.in-Ok-open_store.ensures.pace
-    c.serve_script-status.result.0 c.serve_script-status.ensures.ends)
+    c.serve_script.result.0 c.serve_script.ensures.ends
 
 pub returns : goal.returns
 returns g c =
@@ -58,5 +57,5 @@ returns g c =
       pace = c.in-Err.ensures.pace;
     }) c.tell.ensures.told c.tell.ensures.memory
 
-pub serve_script-status-requires-clause-pins : goal.serve_script-status-requires-clause-pins
-serve_script-status-requires-clause-pins g c κs within = fresh_holds (view_of c.in-Ok-open_store.engine.core) c.in-Ok-open_store.ensures.pins
+pub serve_script-requires-clause-pins : goal.serve_script-requires-clause-pins
+serve_script-requires-clause-pins g c κs within = fresh_holds (view_of c.in-Ok-open_store.engine.core) c.in-Ok-open_store.ensures.pins
