@@ -47,6 +47,7 @@ use Rattle.lethe_advance.specs.Settled.{AreDrawn, AreUncited, names_in}
 use Rattle.lethe_advance.specs.Steps.{IsObjectFrom, IsSegmentFrom, IsSettledBy, IsStep, IsUncited, written_in}
 use Rattle.lethe_advance.specs.declared.new_header.NewHeader.{NewHeader}
 use Rattle.lethe_advance.specs.declared.step.Step.{Step}
+use Rattle.lethe_state.specs.Clock.{clock_of}
 use Rattle.lethe_state.specs.Made.{IsFlushStep, flushing_manifest}
 use Rattle.lethe_state.specs.Records.{headers_in}
 use Rattle.lethe_state.specs.Remembered.{IsCurrent, IsFrozenIn, Remembers}
@@ -110,7 +111,7 @@ module _ (state : State) (cited : List Cited) (number : ℕ) (is : IsWritable st
 
 pub flush_from : (state : State) (parts : MadeFiles) (headers : List NewHeader) (step : Step) → IsWritable state → length state.manifest.segments ≡ 2 → parts.next < max_place
     → parts.next ≡ state.next + length parts.objects.items → ((levels : ℕ) → All (IsFile parts.next levels) parts.cited.items) → All (λ (file : Cited). file.level ≡ 0) parts.cited.items
-    → All (λ (new : NewHeader). new.level ≡ 0) parts.headers.items → IsFlushStep state parts headers step → length step.manifest.files < 2 ^ 32 → IsStepFrom 1 state headers step
+    → All (λ (new : NewHeader). new.level ≡ 0) parts.headers.items → IsFlushStep state parts headers step → length step.manifest.files < 2 ^ 32 → IsStepFrom 1 (clock_of state.manifest) state headers step
 flush_from state parts headers step is two fits drawn each level new_level made few =
     let before = is.drawn in
     let later : state.manifest.next ≤ parts.next = omega (arith, before, drawn) in
@@ -121,6 +122,7 @@ flush_from state parts headers step is two fits drawn each level new_level made 
       spelled = subst HasSpelling (sym made.manifest) (flushing_spelled state parts.cited.items parts.next is two later fits each level short);
       segments_are = ap (λ (m : Manifest). length m.segments) made.manifest ∙ one state parts.cited.items parts.next is two later fits each level short;
       config = ap (λ (m : Manifest). m.config) made.manifest;
+      clock_is = ap clock_of made.manifest;
       levels = subst (All (λ (new : NewHeader). new.level ≤ state.manifest.config.levels)) (sym made.headers_are)
           (All-weaker (λ (new : NewHeader). new.level ≡ 0) (λ (new : NewHeader). new.level ≤ state.manifest.config.levels) (λ new zero. omega (arith, zero)) parts.headers.items new_level);
       numbers = omega (arith, written, number, drawn);

@@ -24,6 +24,7 @@ use Rattle.lethe_advance.specs.Steps.{IsObjectFrom, IsSegmentFrom, IsSettledBy, 
 use Rattle.lethe_advance.specs.declared.new_header.NewHeader.{NewHeader}
 use Rattle.lethe_advance.specs.declared.step.Step.{Step}
 use Rattle.lethe_advance.specs.Segment.{empty_segment}
+use Rattle.lethe_state.specs.Clock.{clock_of}
 use Rattle.lethe_state.specs.Made.{freezing_manifest}
 use Rattle.lethe_state.specs.Remembered.{IsCurrent, Remembers}
 use Rattle.lethe_state.specs.Room.{IsStepFrom}
@@ -68,7 +69,7 @@ freezing_spelled state is none fits =
     }
 
 pub freeze_from : (state : State) (step : Step) → IsWritable state → state.frozen ≡ None → state.next + 1 < max_place → step.objects.items ≡ empty_segment state.next ∷ []
-    → step.manifest ≡ freezing_manifest state → IsStepFrom 2 state [] step
+    → step.manifest ≡ freezing_manifest state → IsStepFrom 2 (clock_of state.manifest) state [] step
 freeze_from state step is none fits objects manifest =
     let one : length state.manifest.segments ≡ 1 = is.segments ∙ ap segments_for none in
     let longer = length_push state.manifest.segments state.next in
@@ -78,6 +79,7 @@ freeze_from state step is none fits objects manifest =
       spelled = subst HasSpelling (sym manifest) (freezing_spelled state is none fits);
       segments_are = ap (λ (m : Manifest). length m.segments) manifest ∙ omega (arith, one, longer);
       config = ap (λ (m : Manifest). m.config) manifest;
+      clock_is = ap clock_of manifest;
       levels = All-nil (λ (new : NewHeader). new.level ≤ state.manifest.config.levels);
       numbers = omega (arith, written, number);
       next = omega (arith, number, last);

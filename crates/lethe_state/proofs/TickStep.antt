@@ -27,6 +27,7 @@ use Rattle.lethe_advance.specs.Settled.{AreDrawn, AreUncited, names_in}
 use Rattle.lethe_advance.specs.Steps.{IsObjectFrom, IsSegmentFrom, IsSettledBy, IsStep, IsUncited}
 use Rattle.lethe_advance.specs.declared.new_header.NewHeader.{NewHeader}
 use Rattle.lethe_advance.specs.declared.step.Step.{Step}
+use Rattle.lethe_state.specs.Clock.{clock_at, clock_of}
 use Rattle.lethe_state.specs.Left.{done_with, first_recorded, kept_with}
 use Rattle.lethe_state.specs.Remembered.{IsCurrent, Remembers}
 use Rattle.lethe_state.specs.Room.{IsStepFrom}
@@ -69,7 +70,7 @@ ticking_spelled state to is free fits within =
     }
 
 pub tick_from : (state : State) (to : ℕ) (step : Step) → IsWritable state → state.next < max_place → state.count < max_place → to ≤ max_time → step.objects.items ≡ []
-    → step.manifest ≡ ticking_manifest state to → IsStepFrom (segments_for state.frozen) state [] step
+    → step.manifest ≡ ticking_manifest state to → IsStepFrom (segments_for state.frozen) (clock_at (clock_of state.manifest) to) state [] step
 tick_from state to step is free fits within objects manifest =
     let written : length step.objects.items ≡ 0 = ap length objects in
     let number : step.manifest.no ≡ state.next = ap (λ (m : Manifest). m.no) manifest in
@@ -77,6 +78,7 @@ tick_from state to step is free fits within objects manifest =
       spelled = subst HasSpelling (sym manifest) (ticking_spelled state to is free fits within);
       segments_are = ap (λ (m : Manifest). length m.segments) manifest ∙ is.segments;
       config = ap (λ (m : Manifest). m.config) manifest;
+      clock_is = ap clock_of manifest;
       levels = All-nil (λ (new : NewHeader). new.level ≤ state.manifest.config.levels);
       numbers = omega (arith, written, number);
       next = omega (arith, number, last);

@@ -1,4 +1,5 @@
 pub mod Writable
+pub mod Clock
 pub mod Firsts
 pub mod Remembered
 pub mod Records

@@ -18,6 +18,7 @@ use Rattle.lethe_stored.specs.Files.{StoredFile, file_of}
 use Rattle.lethe_stored.specs.Stored.{Stored, pending_of, count_of, layout_of, froze}
 use Rattle.lethe_advance.specs.declared.new_header.NewHeader.{NewHeader}
 use Rattle.lethe_advance.specs.declared.step.Step.{Step}
+use Rattle.lethe_state.specs.Clock.{Clock, clock_of}
 use Rattle.lethe_state.specs.Firsts.{no_firsts}
 use Rattle.lethe_state.specs.declared.state.State.{State}
 
@@ -81,12 +82,13 @@ pub record IsShortBy (more : ℕ) (state : State) : Type 0 where
 abbrev pub IsShortToFlush : State → Type 0
 IsShortToFlush state = IsShortBy 0 state
 
--- On any disk: the step's manifest has a spelling, cites so many segments and keeps the configuration. Each number that was drawn is one of an
+-- On any disk: the step's manifest has a spelling, cites so many segments, keeps the configuration and has this clock. Each number that was drawn is one of an
 -- object or the manifest's, which is the last, and files come in levels that there are.
-pub record IsStepFrom (segments : ℕ) (state : State) (headers : List NewHeader) (step : Step) : Type 0 where
+pub record IsStepFrom (segments : ℕ) (clock : Clock) (state : State) (headers : List NewHeader) (step : Step) : Type 0 where
   pub spelled : HasSpelling step.manifest
   pub segments_are : length step.manifest.segments ≡ segments
   pub config : step.manifest.config ≡ state.manifest.config
+  pub clock_is : clock_of step.manifest ≡ clock
   pub levels : All (λ new. new.level ≤ state.manifest.config.levels) headers
   pub numbers : step.manifest.no ≡ state.next + length step.objects.items
   pub next : step.manifest.next ≡ step.manifest.no + 1

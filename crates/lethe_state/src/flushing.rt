@@ -20,6 +20,7 @@ ghost use Rattle.lethe_advance.specs.Steps.{IsStep};
 ghost use Rattle.lethe_flush.specs.Flushed.{IsFlushOf};
 ghost use Rattle.lethe_flush.specs.declared.made.MadeFiles.{MadeFiles};
 ghost use Rattle.lethe_merge.specs.Merge.{merged};
+ghost use Rattle.lethe_state.specs.Clock.{clock_of};
 ghost use Rattle.lethe_state.specs.Made.{IsFlushStep};
 ghost use Rattle.lethe_state.specs.Remembered.{Remembers, IsCurrent};
 ghost use Rattle.lethe_state.specs.Room.{AreDrafted, IsFlushed, IsShortToFlush, IsStepFrom, unfrozen};
@@ -54,7 +55,7 @@ impl State {
         ensures headers { IfOk result (λ made. All (λ new. headers.HasSpelling new.header) made.0.items) }
 
         // The numbers of all objects and of the manifest were drawn.
-        ensures step { IfOk result (λ made. IsStepFrom 1 self.now made.0.items made.1) }
+        ensures step { IfOk result (λ made. IsStepFrom 1 (clock_of self.now.manifest) self.now made.0.items made.1) }
         ensures drafted { IfOk result (λ made. (drafts : prelude.List draft.Draft) × AreDrafted self.now drafts × (length made.1.objects.items ≡ sum_by numbers_for drafts)) }
 
         // Of the objects that it makes each is created, and each page is opened, too. One segment goes.
@@ -113,7 +114,7 @@ impl State {
             × IsFlushOf self.now.manifest.config entries self.now.pending alone self.now.count self.now.next parts files
             × (self.now.next ≤ parts.next) × IsFlushStep self.now parts made.0.items made.1) }
         ensures headers { IfOk result (λ made. All (λ new. headers.HasSpelling new.header) made.0.items) }
-        ensures step { IfOk result (λ made. IsStepFrom 1 self.now made.0.items made.1) }
+        ensures step { IfOk result (λ made. IsStepFrom 1 (clock_of self.now.manifest) self.now made.0.items made.1) }
         ensures few { IfOk result (λ made. length made.1.objects.items ≡ sum_by numbers_for drafts.items) }
     {
         let made = flush_files(alloc, drafts, self.count, self.next)?;

@@ -11,6 +11,7 @@ ghost use Rattle.lethe_advance.specs.Calls.{most_calls};
 ghost use Rattle.lethe_advance.specs.Settled.{AreDrawn, AreUncited, names_in};
 ghost use Rattle.lethe_advance.specs.Steps.{IsStep};
 ghost use Rattle.lethe_advance.specs.Segment.{empty_segment};
+ghost use Rattle.lethe_state.specs.Clock.{clock_of};
 ghost use Rattle.lethe_state.specs.Made.{freezing_manifest};
 ghost use Rattle.lethe_state.specs.Remembered.{Remembers, IsCurrent};
 ghost use Rattle.lethe_state.specs.Room.{IsFrozenWith, IsShortToFreeze, IsStepFrom};
@@ -35,7 +36,7 @@ impl State {
         requires unfrozen { self.now.frozen ≡ None }
         ensures exhausted { IsErrOf result (refused.Exhausted max_place) ↔ IsShortToFreeze self.now }
         ensures refused { IfErr result (λ why. (why ≡ refused.Exhausted max_place) ⊎ (why ≡ refused.NoMemory)) }
-        ensures step { IfOk result (IsStepFrom 2 self.now []) }
+        ensures step { IfOk result (IsStepFrom 2 (clock_of self.now.manifest) self.now []) }
         ensures calls { IfOk result (λ step. (most_calls [] step ≡ 9) × (length step.objects.items ≡ 1)) }
         ensures freezes { (s : Stored) (levels : prelude.List (prelude.List Parts)) → Remembers s self.now levels → IsCurrent s self.now
             → (loose : prelude.List (name.Name × prelude.List ℕ)) → AreDrawn self.now.next (names_in loose) → AreUncited s loose

@@ -11,6 +11,7 @@ ghost use Rattle.lethe_follows.specs.Ticked.{certificate_at, ticked};
 ghost use Rattle.lethe_follows.specs.Young.{AreYoung};
 ghost use Rattle.lethe_advance.specs.Settled.{AreDrawn, AreUncited, names_in};
 ghost use Rattle.lethe_advance.specs.Steps.{IsStep};
+ghost use Rattle.lethe_state.specs.Clock.{clock_at, clock_of};
 ghost use Rattle.lethe_state.specs.Remembered.{Remembers, IsCurrent};
 ghost use Rattle.lethe_state.specs.Room.{IsStepFrom};
 ghost use Rattle.lethe_state.specs.Ticking.{moved, ticking_manifest};
@@ -37,7 +38,7 @@ impl State {
         ensures refused { IfErr result (λ why. (why ≡ refused.Exhausted max_place) ⊎ (why ≡ refused.NoMemory)) }
         ensures objects { IfOk result (λ step. step.objects.items ≡ []) }
         ensures manifest { IfOk result (λ step. step.manifest ≡ ticking_manifest self.now to) }
-        ensures step { IfOk result (IsStepFrom (segments_for self.now.frozen) self.now []) }
+        ensures step { IfOk result (IsStepFrom (segments_for self.now.frozen) (clock_at (clock_of self.now.manifest) to) self.now []) }
         ensures ticks { (s : Stored) (levels : prelude.List (prelude.List Parts)) → Remembers s self.now levels → IsCurrent s self.now
             → (loose : prelude.List (name.Name × prelude.List ℕ)) → AreDrawn self.now.next (names_in loose) → AreUncited s loose
             → IfOk result (λ step. IsStep s loose (ticked s to self.now.next) loose [] step) }

@@ -4,6 +4,7 @@ ghost use Rattle.std.specs.Prelude.{◌≡◌, ◌<◌, [], None, IfOk, OnOk, Is
 ghost use Rattle.lethe_advance.specs.declared.new_header.NewHeader.{NewHeader};
 ghost use Rattle.lethe_base.specs.Limits.{max_place};
 ghost use Rattle.lethe_segment.specs.Records.{RecordHasSpelling};
+ghost use Rattle.lethe_state.specs.Clock.{clock_of};
 ghost use Rattle.lethe_state.specs.Room.{IsStepFrom};
 ghost use Rattle.lethe_state.specs.Writable.{IsWritable};
 
@@ -103,7 +104,7 @@ fn draw(state: &mut State) -> Result<(), Fail>
 fn freezing(alloc: Global, state: &State) -> Result<Step, Fail>
     requires { IsWritable state.now }
     ensures unfrozen { OnOk result (state.now.frozen ≡ None) }
-    ensures step { IfOk result (IsStepFrom 2 state.now []) }
+    ensures step { IfOk result (IsStepFrom 2 (clock_of state.now.manifest) state.now []) }
 {
     match state.frozen() {
         None => Ok(state.freezing(alloc)?),
@@ -115,7 +116,7 @@ fn freezing(alloc: Global, state: &State) -> Result<Step, Fail>
 fn flushing(alloc: Global, state: &State) -> Result<(usize, Step), Fail>
     requires writable { IsWritable state.now }
     requires frozen { IsSome state.now.frozen }
-    ensures { IfOk result (λ made. (headers : prelude.List NewHeader) × IsStepFrom 1 state.now headers made.1) }
+    ensures { IfOk result (λ made. (headers : prelude.List NewHeader) × IsStepFrom 1 (clock_of state.now.manifest) state.now headers made.1) }
 {
     let version: Version<MemDisk> = Version::of(alloc, Vec::new(alloc))?;
     let (headers, step) = state.flushing(alloc, &version)?;
