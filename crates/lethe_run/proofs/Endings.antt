@@ -159,6 +159,7 @@ module _ (Tells Ports : Type 0) (start mid : View) (idle : Tells → IsIdle star
           each = c.each;
           lasting = c.lasting;
           certified = c.certified;
+          seen = c.seen;
           leaves = c.leaves;
           config_is = c.config_is;
           clean = c.clean;

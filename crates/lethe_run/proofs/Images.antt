@@ -159,7 +159,7 @@ module _ (begin : Start) (from : Point) (h : History) (view : View) (on : IsOn b
   has_config = config_by view.state.stopped on.stands.now.held
 
   -- and it takes changes, so that it is clean
-  runs_by : (stopped : Option ℕ) → IsOpenOrStopped begin.config view h on.stands.now.stored stopped → failed_in h ≡ None → stopped ≡ None
+  pub runs_by : (stopped : Option ℕ) → IsOpenOrStopped begin.config view h on.stands.now.stored stopped → failed_in h ≡ None → stopped ≡ None
   runs_by None now none = refl
   runs_by (Some at) now none =
       let last = one_failed now.before now.change now.faults_before now.faults now.done now.failed in

@@ -5,6 +5,7 @@ pub mod Lasting
 pub mod Outcomes
 pub mod Shorts
 pub mod Steps
+pub mod Seen
 pub mod Pins
 pub mod Holding
 pub mod Anywhere

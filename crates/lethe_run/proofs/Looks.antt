@@ -21,7 +21,7 @@ use Rattle.lethe_script.specs.declared.order.Act.{Act}
 use Rattle.lethe_run.specs.declared.reply.Reply.{Reply}
 use Rattle.lethe_run.specs.declared.reply.Reply.TheVariants as reply
 use Rattle.lethe_run.specs.Replies.{unread_of}
-use Rattle.lethe_run.specs.Carried.{certificate_in}
+use Rattle.lethe_run.specs.Carried.{IsSeen, certificate_in, looked_in}
 use Rattle.lethe_run.specs.Serving.{IsBorneOn, IsLookedUp, IsOn, IsAnswered, Point}
 use Rattle.lethe_run.specs.Transcript.{Course, Start, course, Answers, Follows, IsAnswerAt, IsRead, IsStatAt}
 use Rattle.lethe_run.proofs.Images.{still}
@@ -50,13 +50,13 @@ module _ (Ports : Type 0) (begin : Start) (from : Point) (h : History) (caller :
         shape = shape now.stored now.remembers;
       }
 
-  pub reads : (r : Reply) → IfSome (certificate_in r) (IsBorneOn begin h view) → Answers (told_of h Here) caller act r → Follows Here (length h) r (length h) → (g : History) × IsAnswered Ports begin h g caller act r view view
-  reads r certified what follows = (h, record { grows = ([], sym (append-nil h)); answers = what; follows = follows; certified = certified; goes = still begin h view })
+  pub reads : (r : Reply) → IfSome (certificate_in r) (IsBorneOn begin h view) → IfSome (looked_in r) (IsSeen begin.config begin.moment h view.disk) → Answers (told_of h Here) caller act r → Follows Here (length h) r (length h) → (g : History) × IsAnswered Ports begin h g caller act r view view
+  reads r certified seen what follows = (h, record { grows = ([], sym (append-nil h)); answers = what; follows = follows; certified = certified; seen = seen; goes = still begin h view })
 
   -- a read that is refused
   pub unread : IsRead act → (why : Refused) → IsReadRefusal why → ((before behind : ℕ) → why ≡ refused.ReadFault before behind → Ports) → ((name : Name) → why ≡ refused.Damaged name → ⊥)
       → Outcome Ports begin h caller act (unread_of why) view view
-  unread is (refused.ReadFault before behind) reason fails sound = reads reply.ReadFault tt (inl is, fails before behind refl) refl
+  unread is (refused.ReadFault before behind) reason fails sound = reads reply.ReadFault tt tt (inl is, fails before behind refl) refl
   unread is (refused.Damaged name) reason fails sound = absurd (sound name refl)
   unread is refused.NoMemory reason fails sound = still begin h view
   unread is (refused.Fault place before behind) reason fails sound = absurd reason
@@ -68,5 +68,5 @@ module _ (Ports : Type 0) (begin : Start) (from : Point) (h : History) (caller :
   unread is (refused.Cancelled begun other) reason fails sound = absurd reason
 
   pub looked_up : (r : Result Reply NoMemory) → IfOk r (IsLookedUp Ports begin view.faults view.disk.moment h caller act) → Outcome Ports begin h caller act r view view
-  looked_up (Ok r) is = reads r (subst (λ told. IfSome told (IsBorneOn begin h view)) (sym is.2) tt) is.0 is.1
+  looked_up (Ok r) is = reads r (subst (λ told. IfSome told (IsBorneOn begin h view)) (sym is.2) tt) (subst (λ told. IfSome told (IsSeen begin.config begin.moment h view.disk)) (sym is.3) tt) is.0 is.1
   looked_up (Err why) is = still begin h view

@@ -17,11 +17,12 @@ use Rattle.lethe_script.specs.declared.order.Order.{Order}
 use Rattle.lethe_wire.specs.Causes.{AppendsFront}
 use Rattle.lethe_run.specs.declared.reply.Line.{Line}
 use Rattle.lethe_run.specs.Printed.{lines_text}
-use Rattle.lethe_run.specs.Carried.{IsBorneOut, IsLasting, certificates_in}
+use Rattle.lethe_run.specs.Carried.{IsBorneOut, IsSeen, certificates_in, looks_in}
 use Rattle.lethe_run.specs.Serving.{Advances, IsBorneOn, IsOn, IsPhase, IsCarried, Point}
 use Rattle.lethe_run.specs.Transcript.{Course, Start, course, IsServed, AreServed, text_of}
 use Rattle.lethe_run.proofs.Images.{still, leaves, has_config, is_clean}
-use Rattle.lethe_run.proofs.Lasting.{Stays, begins_now, bound_now, done_within, here, seen_now, stays_lasting, stays_later}
+use Rattle.lethe_run.proofs.Lasting.{AreStaying, Stays, begins_now, bound_now, done_behind, done_within, seen_now, staying_lasting, staying_next}
+use Rattle.lethe_run.proofs.Seen.{all_seen_later}
 use Rattle.lethe_run.proofs.Serving.{advances_then, all_borne_later, served_later}
 
 -- what was written
@@ -59,18 +60,23 @@ front_text old mid new lines more a b = subst (AppendsFront old new) (sym (text_
 abbrev pub AreBorneOn : Start → History → View → List Line → Type 0
 AreBorneOn begin h view lines = All (IsBorneOn begin h view) (certificates_in lines)
 
+-- and what its lines tell of something stored
+abbrev pub AreSeen : Start → History → View → List Line → Type 0
+AreSeen begin h view lines = All (IsSeen begin.config begin.moment h view.disk) (looks_in lines)
+
 -- the phases so far, and what else is shown of the history that they made
 pub record SoFar (Ports : Type 0) (begin : Start) (from : Point) (phases : List (List Order)) (lines : List (List Line)) (start now : View) (Shown : History → Type 0) : Type 0 where
   pub history : History
   pub served : AreServed (course Ports begin now.faults now.disk.moment) from.history phases lines history
   pub goes : Advances begin from.history history start now
   pub on : IsOn begin from history now
-  pub lasting : All (Stays begin from.history history now) lines
+  pub lasting : AreStaying begin from.history history now from.moment lines
   pub certified : All (AreBorneOn begin history now) lines
+  pub seen : All (AreSeen begin history now) lines
   pub shown : Shown history
 
 pub so_far_start : (Ports : Type 0) (begin : Start) (from : Point) (view : View) (Shown : History → Type 0) → IsOn begin from from.history view → Shown from.history → SoFar Ports begin from [] [] view view Shown
-so_far_start Ports begin from view Shown on shown = record { history = from.history; served = refl; goes = still begin from.history view; on = on; lasting = All-nil (Stays begin from.history from.history view); certified = All-nil (AreBorneOn begin from.history view); shown = shown }
+so_far_start Ports begin from view Shown on shown = record { history = from.history; served = refl; goes = still begin from.history view; on = on; lasting = on.stands.later; certified = All-nil (AreBorneOn begin from.history view); seen = All-nil (AreSeen begin from.history view); shown = shown }
 
 phases_more : (c : Course) (start middle h : History) (phases : List (List Order)) (lines : List (List Line)) (orders : List Order) (more : List Line)
     → AreServed c start phases lines middle → IsServed c middle orders more h → AreServed c start (phases ++ orders ∷ []) (lines ++ more ∷ []) h
@@ -81,9 +87,9 @@ phases_more c start middle h (p ∷ phases) (l ∷ lines) orders more served las
 
 -- from the end of a phase on each crash has what its lines answer with `ok`
 stays_now : (Ports : Type 0) (begin : Start) (from : Point) (start h : History) (orders : List Order) (lines : List Line) (view : View) → IsOn begin from h view
-    → IsServed (course Ports begin view.faults view.disk.moment) start orders lines h → Stays begin from.history h view lines
+    → IsServed (course Ports begin view.faults view.disk.moment) start orders lines h → Stays begin from.history h view view.disk.moment lines
 stays_now Ports begin from start h orders lines view on served = record {
-  point = here begin from h view on;
+  had = without_failed h;
   begins = begins_now begin from h view on;
   on = seen_now begin from h view on;
   places = done_within (record { history = h; course = course Ports begin view.faults view.disk.moment }) (length (without_failed h)) (bound_now begin from h view on) orders lines served.answered;
@@ -100,12 +106,15 @@ so_far_more Ports begin from h phases lines part more start now then Was Is le s
           (served_later Ports begin now.faults then.faults now.disk.moment then.disk.moment le phase.goes.calls.later from.history so_far.history phases lines so_far.served) phase.served;
       goes = advances_then begin from.history so_far.history h start now then so_far.goes phase.goes;
       on = on;
-      lasting = All-append (Stays begin from.history h then) lines (more ∷ [])
-          (All-weaker (Stays begin from.history so_far.history now) (Stays begin from.history h then) (λ ls is. stays_later begin from.history so_far.history h now then ls phase.goes.stands is) lines so_far.lasting)
-          (All-cons (Stays begin from.history h then) more [] (stays_now Ports begin from so_far.history h part more then on phase.served) (All-nil (Stays begin from.history h then)));
+      lasting = staying_next begin from so_far.history h now then so_far.on phase.goes phase.served.begins more
+          (done_behind (course Ports begin then.faults then.disk.moment) more (length so_far.history) (length h) phase.served.alone) (stays_now Ports begin from so_far.history h part more then on phase.served) lines so_far.lasting;
       certified = All-append (AreBorneOn begin h then) lines (more ∷ [])
           (All-weaker (AreBorneOn begin so_far.history now) (AreBorneOn begin h then) (λ ls is. all_borne_later begin so_far.history h now then phase.goes (certificates_in ls) is) lines so_far.certified)
           (All-cons (AreBorneOn begin h then) more [] phase.certified (All-nil (AreBorneOn begin h then)));
+      seen = All-append (AreSeen begin h then) lines (more ∷ [])
+          (All-weaker (AreSeen begin so_far.history now) (AreSeen begin h then)
+          (λ ls is. all_seen_later begin.config begin.moment so_far.history h phase.served.begins now.disk then.disk phase.goes.calls (looks_in ls) is) lines so_far.seen)
+          (All-cons (AreSeen begin h then) more [] phase.seen (All-nil (AreSeen begin h then)));
       shown = shown;
     }
 
@@ -129,9 +138,10 @@ carried Ports begin from phases lines start now Shown itself so_far = record {
   served = so_far.served;
   calls = so_far.goes.calls;
   each = so_far.on.stands.images;
-  lasting = All-weaker (Stays begin from.history so_far.history now) (IsLasting begin.config from.history so_far.history now.disk) (λ ls is. stays_lasting begin from.history so_far.history now ls is) lines so_far.lasting;
+  lasting = staying_lasting begin from.history so_far.history now from.moment lines so_far.lasting;
   certified = All-weaker (AreBorneOn begin so_far.history now) (λ line. All (IsBorneOut begin.config begin.moment so_far.history now.disk) (certificates_in line))
       (λ line is. All-weaker (IsBorneOn begin so_far.history now) (IsBorneOut begin.config begin.moment so_far.history now.disk) (borne_out begin so_far.history now) (certificates_in line) is) lines so_far.certified;
+  seen = so_far.seen;
   leaves = leaves begin from so_far.history now so_far.on itself;
   config_is = has_config begin from so_far.history now so_far.on;
   clean = is_clean begin from so_far.history now so_far.on;

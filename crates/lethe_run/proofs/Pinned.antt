@@ -25,7 +25,7 @@ use Rattle.lethe_script.specs.declared.order.Act.TheVariants as acts
 use Rattle.lethe_run.specs.declared.reply.Reply.{Reply}
 use Rattle.lethe_run.specs.declared.reply.Reply.TheVariants as reply
 use Rattle.lethe_run.specs.Anywhere.{IsTold, standing_of}
-use Rattle.lethe_run.specs.Carried.{certificate_in}
+use Rattle.lethe_run.specs.Carried.{IsSeen, Limit, certificate_in, looked_in}
 use Rattle.lethe_run.specs.Holding.{IsShown}
 use Rattle.lethe_run.specs.Replies.{unread_of}
 use Rattle.lethe_run.specs.Serving.{Advances, IsAnswered, IsBorneOn, IsLookedUp, IsOn, Point, opened_in}
@@ -33,6 +33,7 @@ use Rattle.lethe_run.specs.Slots.{Pin, Slots, pin_in, with_pin, without_pin}
 use Rattle.lethe_run.specs.Transcript.{Answers, Course, Follows, IsAnswerAt, IsRead, Start, course}
 use Rattle.lethe_run.proofs.Anywhere.{next_still, stands_still}
 use Rattle.lethe_run.proofs.Outcomes.{told_of}
+use Rattle.lethe_run.proofs.Seen.{seen_later}
 
 -- the clock of a store is that of its history, also where a change failed
 clock_is : (config : Fields) (h : History) (view : View) → StandsNow config h view → view.state.manifest.clock ≡ (after h).clock
@@ -56,21 +57,21 @@ module _ (Ports : Type 0) (begin : Start) (from : Point) (h : History) (caller :
   abbrev Here : Course
   Here = course Ports begin new.faults new.disk.moment
 
-  looks : (act : Act) (r : Reply) → IfSome (certificate_in r) (IsBorneOn begin h new) → Answers (told_of h Here) caller act r → Follows Here (length h) r (length h) → (g : History) × IsAnswered Ports begin h g caller act r old new
-  looks act r certified what follows = (h, record { grows = ([], sym (append-nil h)); answers = what; follows = follows; certified = certified; goes = goes })
+  looks : (act : Act) (r : Reply) → IfSome (certificate_in r) (IsBorneOn begin h new) → IfSome (looked_in r) (IsSeen begin.config begin.moment h new.disk) → Answers (told_of h Here) caller act r → Follows Here (length h) r (length h) → (g : History) × IsAnswered Ports begin h g caller act r old new
+  looks act r certified seen what follows = (h, record { grows = ([], sym (append-nil h)); answers = what; follows = follows; certified = certified; seen = seen; goes = goes })
 
   pub pin_served : (slot point number limit : ℕ) → point ≡ old.state.count → (old.state.manifest.clock < limit) × (limit ≤ begin.config.threshold + old.state.manifest.clock)
-      → (g : History) × IsAnswered Ports begin h g caller (acts.Pin slot) (reply.Pinned point number limit) old new
-  pin_served slot point number limit at near =
+      → IsSeen begin.config begin.moment h old.disk (point, Limit limit) → (g : History) × IsAnswered Ports begin h g caller (acts.Pin slot) (reply.Pinned point number limit) old new
+  pin_served slot point number limit at near seen =
       let all = at ∙ on.stands.now.count in
       let clock = clock_is begin.config h old on.stands.now ∙ ap (λ (l : History). (after l).clock) (sym (take_all point h (omega (arith, all)))) in
-      looks (acts.Pin slot) (reply.Pinned point number limit) tt
+      looks (acts.Pin slot) (reply.Pinned point number limit) tt (seen_later begin.config begin.moment h h ([], sym (append-nil h)) old.disk new.disk goes.calls (point, Limit limit) seen)
       ((slot, refl), record { within = omega (arith, all); above = let above = near.0 in omega (arith, above, clock); near = let most = near.1 in omega (arith, most, clock) }) (all, refl)
 
   pub unpin_served : (slot point number : ℕ) → point ≡ old.state.count → (g : History) × IsAnswered Ports begin h g caller (acts.Unpin slot) (reply.Unpinned point number) old new
   unpin_served slot point number at =
       let all = at ∙ on.stands.now.count in
-      looks (acts.Unpin slot) (reply.Unpinned point number) tt ((slot, refl), omega (arith, all)) (all, refl)
+      looks (acts.Unpin slot) (reply.Unpinned point number) tt tt ((slot, refl), omega (arith, all)) (all, refl)
 
 -- what a slot holds is read as the map was at its point
 pub slot_answer : {D Page Port : Type 0} {kind : Ghosts D Page Port} (h : History) (snapshot : Snapshot D Page Port kind) (read : Read) (given : Answer) (point : ℕ) → point ≡ snapshot.point → IsShown h snapshot
@@ -84,7 +85,7 @@ slot_answer h snapshot read given point at shown is =
 
 pub slot_unread : (Ports : Type 0) (begin : Start) (faults moment : ℕ) (h : History) (caller : ℕ) (act : Act) → IsRead act → (why : Refused) → IsReadRefusal why → ((before behind : ℕ) → why ≡ refused.ReadFault before behind → Ports)
     → ((name : Name) → why ≡ refused.Damaged name → ⊥) → IfOk (unread_of why) (IsLookedUp Ports begin faults moment h caller act)
-slot_unread Ports begin faults moment h caller act is (refused.ReadFault before behind) reason fails sound = ((inl is, fails before behind refl), refl, refl)
+slot_unread Ports begin faults moment h caller act is (refused.ReadFault before behind) reason fails sound = ((inl is, fails before behind refl), refl, refl, refl)
 slot_unread Ports begin faults moment h caller act is (refused.Damaged name) reason fails sound = absurd (sound name refl)
 slot_unread Ports begin faults moment h caller act is refused.NoMemory reason fails sound = tt
 slot_unread Ports begin faults moment h caller act is (refused.Fault place before behind) reason fails sound = absurd reason

@@ -27,7 +27,7 @@ use Rattle.lethe_run.specs.declared.reply.Line.TheVariants as line
 use Rattle.lethe_run.specs.declared.reply.Reply.{Reply}
 use Rattle.lethe_run.specs.declared.reply.Reply.TheVariants as reply
 use Rattle.lethe_run.specs.Anywhere.{AreTold, IsLater, IsTold, Standing, entries_of, standing_of}
-use Rattle.lethe_run.specs.Carried.{certificate_of, certificates_in}
+use Rattle.lethe_run.specs.Carried.{IsSeen, certificate_of, certificates_in, look_of, looks_in}
 use Rattle.lethe_run.specs.Holding.{AreShown, slots_of}
 use Rattle.lethe_run.specs.Rows.{HasMade, HasServed, IsStretch, act_of, done_lines, orders_of, stopped_lines, unlined}
 use Rattle.lethe_run.specs.Serving.{Advances, IsAnswered, IsBorneOn, IsOn, IsPhase, Point, opened_in}
@@ -36,6 +36,7 @@ use Rattle.lethe_run.specs.Transcript.{Answered, Course, InTurn, IsFailedAt, IsF
 use Rattle.lethe_run.proofs.Anywhere.{later_itself, later_then, stands_so, told_wider}
 use Rattle.lethe_run.proofs.Holding.{none_if, same_slots, shown_later}
 use Rattle.lethe_run.proofs.Outcomes.{told_of}
+use Rattle.lethe_run.proofs.Seen.{all_seen_later}
 use Rattle.lethe_run.proofs.Serving.{advances_then, all_borne_later, answered_before, built_more, built_start, built_still, in_turn_later, phase_of}
 use Rattle.lethe_run.proofs.Steps.{longer}
 
@@ -64,6 +65,7 @@ phase_lined Ports begin start h orders lines old new is = record {
     alone = is.served.alone;
   };
   certified = is.certified;
+  seen = is.seen;
   goes = is.goes;
 }
 
@@ -123,6 +125,8 @@ phase_then Ports begin from start h g first second lines more old mid new le on 
       alone = in_turn_append Then (length start) (length h) (length g) lines more (in_turn_later Ports begin mid.faults new.faults mid.disk.moment new.disk.moment later (length start) (length h) lines p.served.alone) q.served.alone;
       certified = subst (All (IsBorneOn begin g new)) (sym (filter_map-append certificate_of lines more))
           (All-append (IsBorneOn begin g new) (certificates_in lines) (certificates_in more) (all_borne_later begin h g mid new q.goes (certificates_in lines) p.certified) q.certified);
+      seen = subst (All (IsSeen begin.config begin.moment g new.disk)) (sym (filter_map-append look_of lines more))
+          (All-append (IsSeen begin.config begin.moment g new.disk) (looks_in lines) (looks_in more) (all_seen_later begin.config begin.moment h g q.served.begins mid.disk new.disk q.goes.calls (looks_in lines) p.seen) q.seen);
       goes = advances_then begin start h g old mid new p.goes q.goes;
     })
 
@@ -267,6 +271,14 @@ stopped_certified : (caller at k : ℕ) → certificates_in (stopped_lines calle
 stopped_certified caller at zero = refl
 stopped_certified caller at (suc k) = stopped_certified caller at k
 
+none_looked : (caller n k : ℕ) → looks_in (done_lines caller n k) ≡ []
+none_looked caller n zero = refl
+none_looked caller n (suc k) = none_looked caller (suc n) k
+
+stopped_looked : (caller at k : ℕ) → looks_in (stopped_lines caller at k) ≡ []
+stopped_looked caller at zero = refl
+stopped_looked caller at (suc k) = stopped_looked caller at k
+
 -- one line more
 
 places_more : (n k : ℕ) → places_behind n k ++ suc (n + k) ∷ [] ≡ places_behind n (suc k)
@@ -332,6 +344,7 @@ module _ (Tells Ports : Type 0) (caller : ℕ) (changes left : List Asked) (done
                 answered = answered_done c caller is.row.made start [] h old.state.count counted (whole ∙ ap (λ l. start ++ l) (sym (append-nil added)));
                 alone = subst (λ n. InTurn c n lines (length h)) counted (in_turn_done c caller old.state.count (length is.row.made) (length h) (size ∙ ap (λ n. n + length is.row.made) (sym counted)));
                 certified = subst (All (IsBorneOn begin h new)) (sym (none_certified caller old.state.count (length is.row.made))) (All-nil (IsBorneOn begin h new));
+                seen = subst (All (IsSeen begin.config begin.moment h new.disk)) (sym (none_looked caller old.state.count (length is.row.made))) (All-nil (IsSeen begin.config begin.moment h new.disk));
                 goes = advances told begin from start on;
               }),
             )
@@ -382,6 +395,11 @@ module _ (Tells Ports : Type 0) (caller : ℕ) (changes left : List Asked) (done
         filter_map-append certificate_of (done_lines caller old.state.count (length is.row.made)) fault_lines
         ∙ ap (λ l. l ++ certificates_in fault_lines) (none_certified caller old.state.count (length is.row.made)) ∙ stopped_certified caller failure.place (length others)
 
+    none_looked_in_all : looks_in all_lines ≡ []
+    none_looked_in_all =
+        filter_map-append look_of (done_lines caller old.state.count (length is.row.made)) fault_lines
+        ∙ ap (λ l. l ++ looks_in fault_lines) (none_looked caller old.state.count (length is.row.made)) ∙ stopped_looked caller failure.place (length others)
+
     served_failed : Tells → (begin : Start) (from : Point) (start : History) → IsOn begin from start old
         → (h : History) × IsPhase Ports begin start h (orders_of caller (is.row.made ++ next ∷ others)) all_lines old new
     served_failed told begin from start on =
@@ -419,6 +437,7 @@ module _ (Tells Ports : Type 0) (caller : ℕ) (changes left : List Asked) (done
             answered = subst (λ orders. Answered (told_of h c) orders all_lines) (sym (orders_append caller is.row.made (next ∷ others))) answered;
             alone = in_turn_append c (length start) (length (start ++ added)) (length h) done fault_lines first (length h, (at, longer_is), in_turn_stopped c caller (length h) failure.place (length others) (at ∙ sym longer_is));
             certified = subst (All (IsBorneOn begin h new)) (sym none_in_all) (All-nil (IsBorneOn begin h new));
+            seen = subst (All (IsSeen begin.config begin.moment h new.disk)) (sym none_looked_in_all) (All-nil (IsSeen begin.config begin.moment h new.disk));
             goes = advances told begin from start on;
           }),
         )

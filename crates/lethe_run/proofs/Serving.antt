@@ -24,11 +24,12 @@ use Rattle.lethe_run.specs.declared.reply.Line.{Line}
 use Rattle.lethe_run.specs.declared.reply.Line.TheVariants as line
 use Rattle.lethe_run.specs.declared.reply.Reply.{Reply}
 use Rattle.lethe_run.specs.declared.reply.Reply.TheVariants.{Done, Ticked, Got, Scanned, Counted, Pinned, PinGot, PinScanned, Unpinned, Fault, Stopped, Exhausted, Backwards, Barred, ReadFault, Damaged}
-use Rattle.lethe_run.specs.Carried.{certificate_in, certificate_of, certificates_in}
+use Rattle.lethe_run.specs.Carried.{IsSeen, Look, certificate_in, certificate_of, certificates_in, look_of, looked_in, looks_in}
 use Rattle.lethe_run.specs.Serving.{Advances, IsBorneOn, IsOn, IsAnswered, IsPhase, Point}
 use Rattle.lethe_run.proofs.Images.{calls_then, still}
 use Rattle.lethe_run.proofs.Lasting.{within}
 use Rattle.lethe_run.proofs.Outcomes.{told_of}
+use Rattle.lethe_run.proofs.Seen.{all_seen_later}
 use Rattle.lethe_run.proofs.Turns.{places_in_turn, sees_in_turn}
 use Rattle.lethe_run.specs.Transcript.{Course, Start, Told, IsShort, course, call_of, change_of, read_of, slot_read_of, IsAhead, IsDoneAt, IsAnswerAt, IsPinAt, IsStatAt, IsTickAt, IsFailedAt, IsFaultOf, Answers, Answered, places_behind, is_of, Follows, InTurn, IsServed, AreServed}
 
@@ -208,12 +209,22 @@ borne_more P lines caller reply all borne =
     subst (All P) (sym (filter_map-append certificate_of lines (line.Answer caller reply ∷ [])))
     (All-append P (certificates_in lines) (certificates_in (line.Answer caller reply ∷ [])) all (one_borne P caller reply (certificate_in reply) refl borne))
 
+one_look : (P : ℕ × Look → Type 0) (caller : ℕ) (reply : Reply) (told : Option (ℕ × Look)) → looked_in reply ≡ told → IfSome told P → All P (looks_in (line.Answer caller reply ∷ []))
+one_look P caller reply None is seen = subst (λ o. All P (cons_option o [])) (sym is) (All-nil P)
+one_look P caller reply (Some told) is seen = subst (λ o. All P (cons_option o [])) (sym is) (All-cons P told [] seen (All-nil P))
+
+look_more : (P : ℕ × Look → Type 0) (lines : List Line) (caller : ℕ) (reply : Reply) → All P (looks_in lines) → IfSome (looked_in reply) P → All P (looks_in (lines ++ line.Answer caller reply ∷ []))
+look_more P lines caller reply all seen =
+    subst (All P) (sym (filter_map-append look_of lines (line.Answer caller reply ∷ [])))
+    (All-append P (looks_in lines) (looks_in (line.Answer caller reply ∷ [])) all (one_look P caller reply (looked_in reply) refl seen))
+
 -- the lines so far
 pub record IsBuilt (Ports : Type 0) (begin : Start) (start : History) (orders : List Order) (lines : List Line) (h : History) (old now : View) : Type 0 where
   pub begins : (added : History) × (h ≡ start ++ added)
   pub answered : Answered (told_of h (course Ports begin now.faults now.disk.moment)) orders lines
   pub alone : InTurn (course Ports begin now.faults now.disk.moment) (length start) lines (length h)
   pub certified : All (IsBorneOn begin h now) (certificates_in lines)
+  pub seen : All (IsSeen begin.config begin.moment h now.disk) (looks_in lines)
   pub goes : Advances begin start h old now
 
 module _ (Ports : Type 0) (begin : Start) (from : Point) (start h : History) (orders : List Order) (lines : List Line) (old now then : View) (le : now.faults ≤ then.faults)
@@ -234,6 +245,7 @@ module _ (Ports : Type 0) (begin : Start) (from : Point) (start h : History) (or
             (subst (λ x. Answered (told_of x Then) orders lines) (sym whole) (answered_before h more (subst IsLegal whole legal) Ports begin now.faults then.faults now.disk.moment then.disk.moment le on orders lines built.answered)) is.answers;
         alone = in_turn_more Then (length start) lines (length h) (length g) order.caller reply (in_turn_later Ports begin now.faults then.faults now.disk.moment then.disk.moment on (length start) (length h) lines built.alone) is.follows;
         certified = borne_more (IsBorneOn begin g then) lines order.caller reply (all_borne_later begin h g now then is.goes (certificates_in lines) built.certified) is.certified;
+        seen = look_more (IsSeen begin.config begin.moment g then.disk) lines order.caller reply (all_seen_later begin.config begin.moment h g is.grows now.disk then.disk is.goes.calls (looks_in lines) built.seen) is.seen;
         goes = advances_then begin start h g old now then built.goes is.goes;
       }
 
@@ -247,6 +259,7 @@ module _ (Ports : Type 0) (begin : Start) (from : Point) (start h : History) (or
         answered = subst (λ x. Answered (told_of x Then) orders lines) (append-nil h) (answered_before h [] (subst IsLegal (sym (append-nil h)) legal) Ports begin now.faults then.faults now.disk.moment then.disk.moment le on orders lines built.answered);
         alone = in_turn_later Ports begin now.faults then.faults now.disk.moment then.disk.moment on (length start) (length h) lines built.alone;
         certified = all_borne_later begin h h now then goes (certificates_in lines) built.certified;
+        seen = all_seen_later begin.config begin.moment h h ([], sym (append-nil h)) now.disk then.disk goes.calls (looks_in lines) built.seen;
         goes = advances_then begin start h h old now then built.goes goes;
       }
 
@@ -263,11 +276,12 @@ phase_of Ports begin from start h orders lines old now on built = record {
     alone = built.alone;
   };
   certified = built.certified;
+  seen = built.seen;
   goes = built.goes;
 }
 
 pub built_start : (Ports : Type 0) (begin : Start) (start : History) (view : View) → IsBuilt Ports begin start [] [] start view view
-built_start Ports begin start view = record { begins = ([], sym (append-nil start)); answered = tt; alone = refl; certified = All-nil (IsBorneOn begin start view); goes = still begin start view }
+built_start Ports begin start view = record { begins = ([], sym (append-nil start)); answered = tt; alone = refl; certified = All-nil (IsBorneOn begin start view); seen = All-nil (IsSeen begin.config begin.moment start view.disk); goes = still begin start view }
 
 -- the same when the counts have risen
 

@@ -25,7 +25,7 @@ use Rattle.lethe_script.specs.declared.order.Act.{Act}
 use Rattle.lethe_run.specs.declared.reply.Reply.{Reply}
 use Rattle.lethe_run.specs.declared.reply.Reply.TheVariants as reply
 use Rattle.lethe_run.specs.Replies.{refusal_of, reply_of}
-use Rattle.lethe_run.specs.Carried.{certificate_in}
+use Rattle.lethe_run.specs.Carried.{IsSeen, certificate_in, looked_in}
 use Rattle.lethe_run.specs.Serving.{Advances, IsBorneOn, IsOn, IsAnswered, Point, opened_in}
 use Rattle.lethe_run.specs.Transcript.{Course, Start, course, IsFailedAt, IsFaultOf, IsShort, WasStopped, Answers, Follows, call_of, change_of}
 use Rattle.lethe_run.proofs.Images.{stopped_by}
@@ -96,26 +96,27 @@ module _ (Tells Ports : Type 0) (told : Tells) (begin : Start) (from : Point) (h
           answers = subst (λ asks. IsSomeAnd asks (IsFaultOf (told_of g Now) caller place b a)) (sym is) (record { fails = fails; who = refl; what = refl });
           follows = (at, longer h change);
           certified = tt;
+          seen = tt;
           goes = advances (Some (refused.Fault place b a)) says;
         },
       )
 
   -- it wasn't begun, or what was done for it stands for the same history
-  pub not_made : (r : Reply) → IfSome (certificate_in r) (IsBorneOn begin h new) → Advances begin h h old new → Answers (told_of h Now) caller act r → Follows Now (length h) r (length h) → Replied r
-  not_made r certified still what follows = (h, record { grows = ([], sym (append-nil h)); answers = what; follows = follows; certified = certified; goes = still })
+  pub not_made : (r : Reply) → IfSome (certificate_in r) (IsBorneOn begin h new) → IfSome (looked_in r) (IsSeen begin.config begin.moment h new.disk) → Advances begin h h old new → Answers (told_of h Now) caller act r → Follows Now (length h) r (length h) → Replied r
+  not_made r certified seen still what follows = (h, record { grows = ([], sym (append-nil h)); answers = what; follows = follows; certified = certified; seen = seen; goes = still })
 
   stopped : (at : ℕ) → old.state.stopped ≡ Some at → Says (Some (refused.Stopped at)) → Replied (reply.Stopped at)
   stopped at was says =
       let held = subst (IsOpenOrStopped begin.config old h on.stands.now.stored) was on.stands.now.held in
-      not_made (reply.Stopped at) tt (advances (Some (refused.Stopped at)) says)
+      not_made (reply.Stopped at) tt tt (advances (Some (refused.Stopped at)) says)
       (asks_change act call is, stopped_later Ports begin h old.faults old.disk.moment new.faults new.disk.moment at says.faults (stopped_by begin from h old on Ports at was)) (held.place, refl)
 
   -- places run out, or numbers
   exhausted : (last : ℕ) → last ≡ max_place → (old.state.count ≡ max_place) ⊎ IsShort (length h) Now → Says (Some (refused.Exhausted last)) → Replied (reply.Exhausted last)
   exhausted last last_is (inl full) says =
       let all : length h ≡ max_place = sym on.stands.now.count ∙ full in
-      not_made (reply.Exhausted last) tt (advances (Some (refused.Exhausted last)) says) (asks_change act call is, (last_is, inl all)) (inl (all ∙ sym last_is), refl)
-  exhausted last last_is (inr short) says = not_made (reply.Exhausted last) tt (advances (Some (refused.Exhausted last)) says) (asks_change act call is, (last_is, inr short)) (inr short, refl)
+      not_made (reply.Exhausted last) tt tt (advances (Some (refused.Exhausted last)) says) (asks_change act call is, (last_is, inl all)) (inl (all ∙ sym last_is), refl)
+  exhausted last last_is (inr short) says = not_made (reply.Exhausted last) tt tt (advances (Some (refused.Exhausted last)) says) (asks_change act call is, (last_is, inr short)) (inr short, refl)
 
   module _ (Short : Type 0) (lacks : (last : ℕ) → old.state.stopped ≡ None → Says (Some (refused.Exhausted last)) → Short → IsShort (length h) Now) where
     full_or_short : (last : ℕ) → old.state.stopped ≡ None → Says (Some (refused.Exhausted last)) → (old.state.count ≡ max_place) ⊎ Short → (old.state.count ≡ max_place) ⊎ IsShort (length h) Now
@@ -137,7 +138,7 @@ module _ (Tells Ports : Type 0) (told : Tells) (begin : Start) (from : Point) (h
 
   -- it was refused for that
   pub unreadable : (before now : ℕ) (why : Refused) → IsUnreadable Tells Ports before now why → Says (Some why) → Outcome Ports begin h caller act (refusal_of why) old new
-  unreadable before now (refused.ReadFault b a) reason says = not_made reply.ReadFault tt (advances (Some (refused.ReadFault b a)) says) (inr (asks_change act call is), reason.0) refl
+  unreadable before now (refused.ReadFault b a) reason says = not_made reply.ReadFault tt tt (advances (Some (refused.ReadFault b a)) says) (inr (asks_change act call is), reason.0) refl
   unreadable before now (refused.Damaged name) reason says = absurd (reason told)
   unreadable before now (refused.Fault place b a) reason says = absurd reason
   unreadable before now (refused.Stopped at) reason says = absurd reason
@@ -167,6 +168,7 @@ module _ (Tells Ports : Type 0) (told : Tells) (begin : Start) (from : Point) (h
           answers = subst (λ asks. IsSomeAnd asks (λ c. change_at g place ≡ Some (record { caller = caller; call = c; did = Done }))) (sym writes) (ap (change_at g) at ∙ change_at-push h change);
           follows = (at, longer h change);
           certified = tt;
+          seen = tt;
           goes = advances Tells Ports told begin from h caller act call is face old new on None says;
         },
       )

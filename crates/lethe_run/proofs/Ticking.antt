@@ -304,6 +304,7 @@ module _ (to : ℕ) (old new : View) where
                 },
               );
               follows = (at, all);
+              seen = tt;
               certified = borne_if synced ticked.place (at ∙ sym all) ticked.certificate due_by true;
               goes = advances Tells Ports told begin from h caller act call refl face old new on None says;
             },
@@ -318,7 +319,7 @@ module _ (to : ℕ) (old new : View) where
         let told_so = subst (λ e. Telling (Some e)) is says in
         let clock : old.state.manifest.clock ≡ (after h).clock = ap (λ (m : Manifest). m.clock) before.remembers.manifest ∙ (stands_for begin.config h old before runs).clock in
         subst (λ e. Outcome Ports begin h caller act (tick_refusal_of point e) old new) (sym is)
-        (not_made Tells Ports told begin from h caller act call refl face old new on (reply.Backwards point old.state.manifest.clock) tt
+        (not_made Tells Ports told begin from h caller act call refl face old new on (reply.Backwards point old.state.manifest.clock) tt tt
         (advances Tells Ports told begin from h caller act call refl face old new on (Some (refused.Backwards old.state.manifest.clock)) told_so)
         (to, refl, record { within = omega (arith, all); is = clock ∙ ap (λ (l : History). (after l).clock) (sym (take_all point h (omega (arith, all)))); ahead = ahead }) (all, refl))
 
@@ -326,7 +327,7 @@ module _ (to : ℕ) (old new : View) where
     barred point why is says =
         let told_so = subst (λ e. Telling (Some e)) is.told says in
         subst (λ e. Outcome Ports begin h caller act (tick_refusal_of point e) old new) (sym is.told)
-        (not_made Tells Ports told begin from h caller act call refl face old new on (reply.Barred is.pin is.limit) tt
+        (not_made Tells Ports told begin from h caller act call refl face old new on (reply.Barred is.pin is.limit) tt tt
         (advances Tells Ports told begin from h caller act call refl face old new on (Some (refused.Pinned is.pin is.limit)) told_so) (to, refl, is.reached) refl)
 
     module _ (rounds : old.rounds < max_place) (small : frozen_len new.state.frozen ≤ 16384)

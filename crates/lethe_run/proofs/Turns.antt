@@ -45,7 +45,7 @@ module _ (c : Course) (caller : ℕ) (p : Line → Bool) where
   picked true seen n m next (Damaged page) lines le f end rest = (tt, omega arith, rest (max seen 0) (omega arith))
 
 module _ (c : Course) where
-  follows_up : (n m : ℕ) (reply : Reply) → Follows c n reply m → n ≤ m
+  pub follows_up : (n m : ℕ) (reply : Reply) → Follows c n reply m → n ≤ m
   follows_up n m (Done place) f = omega arith
   follows_up n m (Ticked ticked) f = omega arith
   follows_up n m (Backwards point clock) f = omega arith

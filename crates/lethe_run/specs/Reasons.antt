@@ -9,7 +9,7 @@ use Rattle.lethe_recover.specs.declared.opening.OpenWhy.TheVariants as open_why
 use Rattle.lethe_run.specs.declared.reason.Reason.{Reason}
 use Rattle.lethe_run.specs.declared.reason.Reason.TheVariants as reason
 use Rattle.lethe_run.specs.declared.status.Status.{Status}
-use Rattle.lethe_run.specs.declared.status.Status.TheVariants.{Answered, BadWords, BadScript, ReadFault, WriteFault, Refused, NoMemory, Damaged, OtherConfig}
+use Rattle.lethe_run.specs.declared.status.Status.TheVariants.{Answered, BadWords, BadScript, ReadFault, WriteFault, Refused, NoMemory}
 use Rattle.lethe_run.specs.Ends as ends
 use Rattle.lethe_run.specs.Ends.{Run, Asks, IsCommand, IsNoScript, Refuses}
 use Rattle.lethe_run.specs.Printed.{bad_line}

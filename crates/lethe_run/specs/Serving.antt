@@ -14,7 +14,7 @@ use Rattle.lethe_script.specs.declared.order.Act.{Act}
 use Rattle.lethe_script.specs.declared.order.Order.{Order}
 use Rattle.lethe_run.specs.declared.reply.Line.{Line}
 use Rattle.lethe_run.specs.declared.reply.Reply.{Reply}
-use Rattle.lethe_run.specs.Carried.{HasConfig, IsBorneOut, IsLasting, certificate_in, certificates_in, failed_in}
+use Rattle.lethe_run.specs.Carried.{AreLasting, HasConfig, IsBorneOut, IsSeen, certificate_in, certificates_in, failed_in, looked_in, looks_in}
 use Rattle.lethe_run.specs.Transcript.{Course, Start, course, Answers, Follows, IsServed, AreServed}
 
 -- a history for which a store stood, and a moment of its disk from which on each crash has it
@@ -58,17 +58,19 @@ pub record IsAnswered (PortsFail : Type 0) (begin : Start) (h g : History) (call
   pub answers : Answers (record { history = g; course = course PortsFail begin new.faults new.disk.moment }) caller act reply
   pub follows : Follows (course PortsFail begin new.faults new.disk.moment) (length h) reply (length g)
   pub certified : IfSome (certificate_in reply) (IsBorneOn begin g new)
+  pub seen : IfSome (looked_in reply) (IsSeen begin.config begin.moment g new.disk)
   pub goes : Advances begin h g old new
 
 -- the act was answered so by what only looked, with these counts of faults and at this moment
 abbrev pub IsLookedUp : Type 0 → Start → ℕ → ℕ → History → ℕ → Act → Reply → Type 0
 IsLookedUp PortsFail begin faults moment h caller act reply =
-    Answers (record { history = h; course = course PortsFail begin faults moment }) caller act reply × Follows (course PortsFail begin faults moment) (length h) reply (length h) × (certificate_in reply ≡ None)
+    Answers (record { history = h; course = course PortsFail begin faults moment }) caller act reply × Follows (course PortsFail begin faults moment) (length h) reply (length h) × (certificate_in reply ≡ None) × (looked_in reply ≡ None)
 
 -- the orders were answered by the lines, and the history went on from h to g
 pub record IsPhase (PortsFail : Type 0) (begin : Start) (h g : History) (orders : List Order) (lines : List Line) (old new : View) : Type 0 where
   pub served : IsServed (course PortsFail begin new.faults new.disk.moment) h orders lines g
   pub certified : All (IsBorneOn begin g new) (certificates_in lines)
+  pub seen : All (IsSeen begin.config begin.moment g new.disk) (looks_in lines)
   pub goes : Advances begin h g old new
 
 -- the phases were answered by the lines, from the opened history on
@@ -77,8 +79,9 @@ pub record IsCarried (course : Course) (begin : Start) (from : Point) (phases : 
   pub served : AreServed course from.history phases lines history
   pub calls : Continues start finish
   pub each : (m : ℕ) (c : Directory) → from.moment ≤ m → m ≤ finish.moment → finish.left m c → IsKeptFor begin.config from.history history c
-  pub lasting : All (IsLasting begin.config from.history history finish) lines
+  pub lasting : AreLasting begin.config from.history history finish from.moment lines
   pub certified : All (λ line. All (IsBorneOut begin.config begin.moment history finish) (certificates_in line)) lines
+  pub seen : All (λ line. All (IsSeen begin.config begin.moment history finish) (looks_in line)) lines
   pub leaves : IsLeft begin.config finish (without_failed history) (failed_in history)
   pub config_is : failed_in history ≡ None → HasConfig begin.config finish.directory
   pub clean : failed_in history ≡ None → IsClean begin.config.threshold finish.directory history (after history).clock

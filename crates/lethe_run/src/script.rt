@@ -1,5 +1,5 @@
 //! Carrying out a script over a store.
-ghost use Rattle.std.specs.Prelude.{◌≡◌, ◌≤◌, ◌<◌, ◌+◌, ◌++◌, List, None, length, position, replicate, flat_map, sum_by, IsTrue, IfErr, IfSome, OnOk};
+ghost use Rattle.std.specs.Prelude.{◌≡◌, ◌≤◌, ◌<◌, ◌+◌, ◌++◌, None, length, position, replicate, flat_map, sum_by, IsTrue, IfErr, IfSome, OnOk};
 ghost use Rattle.std.specs.Io.KnownBytes.{Appends};
 ghost use Rattle.lethe_wire.specs.Causes.{AppendsFront};
 ghost use Rattle.lethe_base.specs.Counts.{Rose};
@@ -12,7 +12,7 @@ ghost use Rattle.lethe_run.specs.Refusals.{IsFirstOr};
 ghost use Rattle.lethe_run.specs.Scripts.{ScriptEnds, IsCutBy, reason_for};
 ghost use Rattle.lethe_run.specs.Printed.{lines_text};
 ghost use Rattle.lethe_run.specs.Slots.{no_slots};
-ghost use Rattle.lethe_run.specs.Transcript.{is_refusal};
+ghost use Rattle.lethe_run.specs.Transcript.{Lines, is_refusal};
 
 use crate::print::{Spelled, spell};
 use crate::reason::Reason;
@@ -119,7 +119,7 @@ fn reason_for(refused: Option<u64>) -> Reason
 /// The number of the first line that tells of a change that failed or wasn't made, or of a read that wasn't answered: of those before, of which so many were printed, or of these.
 fn first_refusal(before: Option<u64>, printed: u64, lines: &[Line]) -> Option<u64>
     requires { printed + length lines.now ≤ max_place }
-    ensures { (so_far : List Line) → length so_far ≡ printed → IsFirstOr so_far before → IsFirstOr (so_far ++ lines.now) result }
+    ensures { (so_far : Lines) → length so_far ≡ printed → IsFirstOr so_far before → IsFirstOr (so_far ++ lines.now) result }
 {
     if before.is_some() {
         return before;

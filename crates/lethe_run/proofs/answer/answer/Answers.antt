@@ -14,6 +14,7 @@ use Rattle.lethe_script.specs.Slots.{held_behind}
 use Rattle.lethe_script.specs.declared.order.Act.TheVariants as acts
 use Rattle.lethe_run.specs.declared.reply.Reply.TheVariants as reply
 use Rattle.lethe_run.specs.Anywhere.{IsTold, standing_of}
+use Rattle.lethe_run.specs.Carried.{Whole}
 use Rattle.lethe_run.specs.Holding.{held_in, slots_of}
 use Rattle.lethe_run.specs.Replies.{reply_of, tick_reply_of, unread_of}
 use Rattle.lethe_run.specs.Serving.{IsAnswered, opened_in}
@@ -21,6 +22,7 @@ use Rattle.lethe_run.proofs.Anywhere.{Tells, change_tells, match_later, unread_t
 use Rattle.lethe_run.proofs.Holding.{behind_held, counted, finds_free, finds_held, on_ok, pin_at, same_holds, same_slots, shown_at, ten_of}
 use Rattle.lethe_run.proofs.Looks.{looked_up, reads, read_answer, stat_answer, unread}
 use Rattle.lethe_run.proofs.Outcomes.{Outcome, ok_of, err_of, or_same}
+use Rattle.lethe_run.proofs.Seen.{seen_here}
 use Rattle.lethe_run.proofs.Shorts.{few_frozen}
 use Rattle.lethe_run.proofs.Steps.{changes}
 use Rattle.lethe_run.proofs.Ticking.{all_pass, forward_so, of_tick, tick_tells, ticks}
@@ -157,7 +159,7 @@ returns-in-Ok-clause-served g c = λ told begin from h caller on shown.
     let r = reply.Got c.count.result c.in-Ok.held in
     let given = ok_of (λ held. answer (after h) (answers.Get key) ≡ answers.Found held) c.get.result (c.get.ensures.answer told begin.config h on.stands.now) c.in-Ok.held c.in-Ok.is in
     subst (λ a. (k : History) × IsAnswered Ports begin h k caller a r view view) (sym c.in-Get.is)
-    (reads Ports begin from h caller (acts.Get key) view on r tt
+    (reads Ports begin from h caller (acts.Get key) view on r tt tt
     (read_answer Ports begin from h caller (acts.Get key) view on (answers.Get key) c.count.result (answers.Found c.in-Ok.held) c.count.ensures given) (c.count.ensures ∙ on.stands.now.count, refl))
 
 pub returns-in-Get-clause-served : goal.returns-in-Get-clause-served
@@ -198,7 +200,7 @@ returns-in-Ok-scan-clause-served g c = λ told begin from h caller on shown.
     let given : answer (after h) (answers.Scan lo hi) ≡ listed pairs =
     ok_of (λ found. answer (after h) (answers.Scan lo hi) ≡ listed found.items) c.scan.result (c.scan.ensures.answer told begin.config h on.stands.now) c.in-Ok-scan.pairs c.in-Ok-scan.is ∙ ap listed (sym c.of.ensures) in
     subst (λ a. (k : History) × IsAnswered Ports begin h k caller a (reply.Scanned point pairs) view view) (sym c.in-Scan.is)
-    (reads Ports begin from h caller (acts.Scan lo hi) view on (reply.Scanned point pairs) tt
+    (reads Ports begin from h caller (acts.Scan lo hi) view on (reply.Scanned point pairs) tt tt
     (read_answer Ports begin from h caller (acts.Scan lo hi) view on (answers.Scan lo hi) point (listed pairs) c.count-in-Ok-scan.ensures given) (c.count-in-Ok-scan.ensures ∙ on.stands.now.count, refl))
 
 pub returns-in-Scan-clause-served : goal.returns-in-Scan-clause-served
@@ -249,12 +251,13 @@ returns-in-Stat-clause-slotted g c = ap (λ act. held_behind act (held_in c.args
 
 pub returns-in-Stat-clause-served : goal.returns-in-Stat-clause-served
 returns-in-Stat-clause-served g c = λ told begin from h caller on shown.
+    let laws = g.met.D.Disk g.world.𝓛 g.world.𝓜 g.world.𝓡 ((λ s x. x), (λ x. x), (λ x. x), λ x. x) in
     let view = view_of c.args.engine.now.core in
     let Ports = g.D.Disk.ports_fail in
     let point = c.count-in-Stat.result in
     let stat = c.stat.result in
     subst (λ a. (k : History) × IsAnswered Ports begin h k caller a (reply.Counted point stat) view view) (sym c.in-Stat.is)
-    (reads Ports begin from h caller acts.Stat view on (reply.Counted point stat) tt
+    (reads Ports begin from h caller acts.Stat view on (reply.Counted point stat) tt (seen_here begin from h view on (laws.itself told c.args.engine.now.core.disk) point c.count-in-Stat.ensures (Whole stat) c.stat.ensures.shape)
     (refl, stat_answer Ports begin from h caller acts.Stat view on point stat c.count-in-Stat.ensures (c.stat.ensures.stat begin.config h on.stands.now) c.stat.ensures.shape) (c.count-in-Stat.ensures ∙ on.stands.now.count, refl))
 
 pub returns-in-Stat-clause-told : goal.returns-in-Stat-clause-told

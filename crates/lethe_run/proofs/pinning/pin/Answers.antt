@@ -5,10 +5,14 @@ use Rattle.lethe_core.specs.Asked.{Serves}
 use Rattle.lethe_core.specs.View.{face_of, view_of}
 use Rattle.lethe_engine.specs.Answers.{Answers}
 use Rattle.lethe_engine.specs.Pins.{pinned_face}
+use Rattle.lethe_bound.specs.Limits.{IsLimit}
+use Rattle.lethe_stored.specs.Stored.{layout_of}
+use Rattle.lethe_run.specs.Carried.{Limit}
 use Rattle.lethe_run.specs.Holding.{pin_of, slots_of}
 use Rattle.lethe_run.specs.Serving.{opened_in}
 use Rattle.lethe_run.proofs.Holding.{behind_free, held_more, holds_more, pin_at, shown_now, shown_set, slots_more, ten_of}
 use Rattle.lethe_run.proofs.Pinned.{looked, pin_served, pin_told}
+use Rattle.lethe_run.proofs.Seen.{seen_here}
 use Rattle.lethe_run.proofs.pinning.pin.Goals as goal
 
 pub hold-requires-clause-ten : goal.hold-requires-clause-ten
@@ -28,12 +32,15 @@ returns-in-Ok-clause-told g c =
 
 pub returns-in-Ok-clause-served : goal.returns-in-Ok-clause-served
 returns-in-Ok-clause-served g c = λ told begin from h caller on.
+    let laws = g.met.D.Disk g.world.𝓛 g.world.𝓜 g.world.𝓡 ((λ s x. x), (λ x. x), (λ x. x), λ x. x) in
     let old = view_of c.args.engine.now.core in
     let new = view_of c.pin.new.self.core in
     let is = c.in-Ok.ensures in
     let none_refused = subst (λ r. Answers g.D.Disk.tells (Serves Work) (result_err r) (pinned_face (face_of old) r) old new) c.in-Ok.is c.pin.ensures.answers in
     pin_served g.D.Disk.ports_fail begin from h caller old new on (looked g.D.Disk.tells told begin from h old new on None (pinned_face (face_of old) (Ok c.in-Ok.snapshot)) none_refused refl) c.args.slot.now c.point-point.result c.number-number.result c.limit-limit.result
     (c.point-point.ensures ∙ is.point) (rw c.limit-limit.ensures (is.near told begin.config (opened_in begin from on.counted) h on.stands))
+    (seen_here begin from h old on (laws.itself told c.args.engine.now.core.disk) c.point-point.result (c.point-point.ensures ∙ is.point) (Limit c.limit-limit.result)
+    (λ s remembers. subst (IsLimit s.manifest.config.threshold (layout_of s)) (sym c.limit-limit.ensures) (is.limit s remembers)))
 
 pub returns-in-Ok-clause-shown : goal.returns-in-Ok-clause-shown
 returns-in-Ok-clause-shown g c = λ told begin from h on shown.

@@ -24,7 +24,7 @@ returns-in-Ok-clause-served g c = λ told begin h caller slot faults moment show
     let point = c.point.result in
     let given = ok_of (λ held. answer (after (without_failed (take snapshot.point h))) (answers.Get key) ≡ answers.Found held) c.get.result
     (c.get.ensures.answer told (without_failed (take snapshot.point h)) shown.shows) held c.in-Ok.is in
-    (slot_answer h snapshot (answers.Get key) (answers.Found held) point c.point.ensures shown given, (omega (arith, shown.within, c.point.ensures), refl), refl)
+    (slot_answer h snapshot (answers.Get key) (answers.Found held) point c.point.ensures shown given, (omega (arith, shown.within, c.point.ensures), refl), refl, refl)
 
 pub returns-in-Err-clause-told : goal.returns-in-Err-clause-told
 returns-in-Err-clause-told g c = λ from upto s slot there.

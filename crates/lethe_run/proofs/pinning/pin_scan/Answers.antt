@@ -27,7 +27,7 @@ returns-in-Ok-clause-served g c = λ told begin h caller slot faults moment show
     let given : answer (after (without_failed (take snapshot.point h))) (answers.Scan lo hi) ≡ listed pairs =
     ok_of (λ found. answer (after (without_failed (take snapshot.point h))) (answers.Scan lo hi) ≡ listed found.items) c.scan.result
     (c.scan.ensures.answer told (without_failed (take snapshot.point h)) shown.shows) c.in-Ok.pairs c.in-Ok.is ∙ ap listed (sym c.of.ensures) in
-    (slot_answer h snapshot (answers.Scan lo hi) (listed pairs) point c.point.ensures shown given, (omega (arith, shown.within, c.point.ensures), refl), refl)
+    (slot_answer h snapshot (answers.Scan lo hi) (listed pairs) point c.point.ensures shown given, (omega (arith, shown.within, c.point.ensures), refl), refl, refl)
 
 pub returns-in-Err-clause-told : goal.returns-in-Err-clause-told
 returns-in-Err-clause-told g c = λ from upto s slot there.
