@@ -16,6 +16,7 @@ use Rattle.lethe_follows.specs.Merged.{Company}
 use Rattle.lethe_manifest.specs.Manifests.{HasSpelling, IsFile}
 use Rattle.lethe_manifest.specs.declared.manifest.Cited.{Cited}
 use Rattle.lethe_manifest.specs.declared.manifest.Manifest.{Manifest}
+use Rattle.lethe_state.specs.Clock.{clock_of}
 use Rattle.lethe_state.specs.Room.{IsStepFrom}
 use Rattle.lethe_state.specs.Writable.{IsWritable, segments_for}
 use Rattle.lethe_state.specs.declared.state.State.{State}
@@ -139,7 +140,7 @@ module _ (state : State) (is : IsWritable state) (level : ℕ) (inputs : Inputs)
 pub install_from : {company : Company} (state : State) (level : ℕ) (inputs : Inputs) (parts : MadeFiles) (retired : List Name) (needs : Name → Bool) (installing : Installation) → IsWritable state → level ≤ state.manifest.config.levels
     → parts.next < max_place → parts.next ≡ state.next + length parts.objects.items → All (IsFile parts.next state.manifest.config.levels) parts.cited.items
     → All (λ (file : Cited). file.level ≡ level) parts.cited.items → All (λ (new : NewHeader). new.level ≡ level) parts.headers.items → IsInstallStep company state level inputs parts retired needs installing
-    → IsStepFrom (segments_for state.frozen) state installing.headers.items installing.step
+    → IsStepFrom (segments_for state.frozen) (clock_of state.manifest) state installing.headers.items installing.step
 install_from {company = company} state level inputs parts retired needs installing is low fits drawn each same into made =
     let before = is.drawn in
     let later : state.manifest.next ≤ parts.next = omega (arith, before, drawn) in
@@ -151,6 +152,7 @@ install_from {company = company} state level inputs parts retired needs installi
       spelled = subst HasSpelling (sym made.manifest) (installing_spelled state is level inputs parts fits later each same company short);
       segments_are = ap (λ (m : Manifest). length m.segments) made.manifest ∙ is.segments;
       config = ap (λ (m : Manifest). m.config) made.manifest;
+      clock_is = ap clock_of made.manifest;
       levels = subst (All (λ (new : NewHeader). new.level ≤ levels)) (sym made.headers_are)
           (All-weaker (λ (new : NewHeader). new.level ≡ level) (λ (new : NewHeader). new.level ≤ levels) (λ new at. omega (arith, at, low)) parts.headers.items into);
       numbers = omega (arith, written, number, drawn);

@@ -13,6 +13,7 @@ ghost use Rattle.lethe_install.specs.Outcomes.{AreFirst, IsInstalledWith, level_
 ghost use Rattle.lethe_job.specs.MadeOf.{numbers_in, pages_of, written_of};
 ghost use Rattle.lethe_job.specs.Works.{AreOutputs, IsInLevels, IsTaskFor, applied_upto, plain_task};
 ghost use Rattle.lethe_pins.specs.Held.{is_named};
+ghost use Rattle.lethe_state.specs.Clock.{clock_of};
 ghost use Rattle.lethe_state.specs.Remembered.{IsCurrent, Remembers};
 ghost use Rattle.lethe_state.specs.Room.{IsStepFrom};
 ghost use Rattle.lethe_state.specs.Writable.{IsWritable, segments_for};
@@ -60,7 +61,7 @@ pub fn installing<D: Disk>(
     ensures exhausted { IsErrOf result (refused.Exhausted max_place) → max_place ≤ state.now.next + (numbers_in made - length written.now) }
     ensures refused { IfErr result (λ why. (why ≡ refused.Exhausted max_place) ⊎ (why ≡ refused.NoMemory)) }
     ensures headers { IfOk result (λ made. All (λ new. headers.HasSpelling new.header) made.headers.items) }
-    ensures step { IfOk result (λ made. IsStepFrom (segments_for state.now.frozen) state.now made.headers.items made.step) }
+    ensures step { IfOk result (λ made. IsStepFrom (segments_for state.now.frozen) (clock_of state.now.manifest) state.now made.headers.items made.step) }
     ensures level { IfOk result (λ made. All (λ new. new.level ≡ level_made (plain_task task.now)) made.headers.items) }
     ensures objects { IfOk result (λ installation. length installation.step.objects.items ≡ numbers_in made - length written.now) }
     ensures fresh { IfOk result (λ made. All (λ object. state.now.next ≤ object.name.no) made.step.objects.items) }

@@ -13,6 +13,7 @@ ghost use Rattle.lethe_install.specs.Outcomes.{AreFirst, IsSweepInstalledWith};
 ghost use Rattle.lethe_install.specs.Replaced.{IsReplaced, behind, names_gone};
 ghost use Rattle.lethe_job.specs.SweepTasks.{IsSweepTask};
 ghost use Rattle.lethe_pins.specs.Held.{is_named};
+ghost use Rattle.lethe_state.specs.Clock.{clock_of};
 ghost use Rattle.lethe_state.specs.Remembered.{IsCurrent, Remembers};
 ghost use Rattle.lethe_state.specs.Room.{IsStepFrom};
 ghost use Rattle.lethe_state.specs.Writable.{IsWritable, segments_for};
@@ -65,7 +66,7 @@ pub fn installing_sweep<D: Disk>(
     ensures exhausted { IsErrOf result (refused.Exhausted max_place) → max_place ≤ state.now.next + (numbers_of draft - length pages.entry.written.now) }
     ensures refused { IfErr result (λ why. (why ≡ refused.Exhausted max_place) ⊎ (why ≡ refused.NoMemory)) }
     ensures headers { IfOk result (λ made. All (λ new. headers.HasSpelling new.header) made.headers.items) }
-    ensures step { IfOk result (λ made. IsStepFrom (segments_for state.now.frozen) state.now made.headers.items made.step) }
+    ensures step { IfOk result (λ made. IsStepFrom (segments_for state.now.frozen) (clock_of state.now.manifest) state.now made.headers.items made.step) }
     ensures level { IfOk result (λ made. All (λ new. new.level ≡ task.now.level) made.headers.items) }
     ensures objects { IfOk result (λ made. length made.step.objects.items ≡ numbers_of draft - length pages.entry.written.now) }
     ensures fresh { IfOk result (λ made. All (λ object. state.now.next ≤ object.name.no) made.step.objects.items) }
@@ -122,7 +123,7 @@ fn install<D: Disk>(
     requires number { number ≡ state.now.next + (numbers_of draft - length pages.written.now) }
     requires free { number < max_place }
     ensures headers { IfOk result (λ made. All (λ new. headers.HasSpelling new.header) made.headers.items) }
-    ensures step { IfOk result (λ made. IsStepFrom (segments_for state.now.frozen) state.now made.headers.items made.step) }
+    ensures step { IfOk result (λ made. IsStepFrom (segments_for state.now.frozen) (clock_of state.now.manifest) state.now made.headers.items made.step) }
     ensures level { IfOk result (λ made. All (λ new. new.level ≡ task.now.level) made.headers.items) }
     ensures objects { IfOk result (λ made. length made.step.objects.items ≡ numbers_of draft - length pages.entry.written.now) }
     ensures fresh { IfOk result (λ made. All (λ object. state.now.next ≤ object.name.no) made.step.objects.items) }
