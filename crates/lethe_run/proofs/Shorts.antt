@@ -10,7 +10,7 @@ use Rattle.lethe_base.specs.Limits.{max_place}
 use Rattle.lethe_build.specs.Built.{most_numbers}
 use Rattle.lethe_mem.specs.Buffered.{Buffered}
 use Rattle.lethe_state.specs.Room.{frozen_len}
-use Rattle.lethe_core.specs.Merges.{IsShortToMerge, IsShortToMergeBy, IsTaskOf}
+use Rattle.lethe_core.specs.Merges.{IsShortToMerge, IsTaskOf}
 use Rattle.lethe_core.specs.Reasons as reasons
 use Rattle.lethe_core.specs.Reasons.{IsShortOfRoom}
 use Rattle.lethe_core.specs.Running.{IsSound}
@@ -18,7 +18,6 @@ use Rattle.lethe_core.specs.StandsNow.{StandsNow}
 use Rattle.lethe_core.specs.View.{View}
 use Rattle.lethe_engine.specs.StandsFor.{StandsSince}
 use Rattle.lethe_engine.specs.Ticks.{IsShortToTick}
-use Rattle.lethe_fade.specs.declared.plan.Plan.{Plan}
 use Rattle.lethe_header.specs.Facts.{lines_of}
 use Rattle.lethe_header.specs.Headers.{entries_in}
 use Rattle.lethe_job.proofs.Listed.{one_summed}
@@ -26,7 +25,6 @@ use Rattle.lethe_job.specs.Tasks.{IsCitedAs, counted_in}
 use Rattle.lethe_job.specs.Works.{PlainTask, inputs_in}
 use Rattle.lethe_manifest.specs.declared.manifest.Cited.{Cited}
 use Rattle.lethe_stored.specs.Files.{Parts, StoredFile, lines_in, parts_of}
-use Rattle.lethe_stored.specs.Stored.{Stored}
 use Rattle.lethe_run.specs.Anywhere.{IsDrawn, entries_of, standing_of}
 use Rattle.lethe_run.specs.Serving.{IsOn, Point, opened_in}
 use Rattle.lethe_run.specs.Slots.{Slots}
@@ -86,13 +84,8 @@ task_counted view task of =
     let some = of.some in
     omega (arith, all, some)
 
-module _ (chosen : Stored → Option Plan) (Tells : Type 0) (view : View) (slots : Slots) where
-  drawn_for_merge : IsShortToMergeBy chosen Tells view → IsDrawn (standing_of view slots)
-  drawn_for_merge short =
-      let reach = short.short in
-      let few = short.bounded in
-      let all = task_counted view short.task short.of in
-      omega (arith, reach, few, all)
+drawn_for_task : (view : View) (slots : Slots) (task : PlainTask) (numbers : ℕ) → IsTaskOf view task → numbers ≤ most_numbers (counted_in (inputs_in task)) → max_place ≤ view.state.next + numbers → IsDrawn (standing_of view slots)
+drawn_for_task view slots task numbers of few reach = let all = task_counted view task of in omega (arith, reach, few, all)
 
 module _ (Tells : Type 0) (old new : View) (slots : Slots) (small : frozen_len old.state.frozen ≤ 16384) (drawn : old.state.next ≤ new.state.next) where
   drawn_before : (frozen : Option Buffered) → reasons.IsShortFor frozen old.state → IsDrawn (standing_of new slots)
@@ -105,7 +98,7 @@ module _ (Tells : Type 0) (old new : View) (slots : Slots) (small : frozen_len o
   -- for room, before it was made or for a merge behind that
   pub drawn_for_room : IsShortOfRoom Tells old.state new → IsDrawn (standing_of new slots)
   drawn_for_room (inl few) = drawn_before old.state.frozen few
-  drawn_for_room (inr few) = drawn_for_merge _ Tells new slots few
+  drawn_for_room (inr few) = drawn_for_task new slots few.task _ few.of few.bounded few.short
 
 module _ (Tells : Type 0) (to : ℕ) (view : View) (slots : Slots) (small : frozen_len view.state.frozen ≤ 16384) where
   -- for a step of a tick
@@ -115,4 +108,4 @@ module _ (Tells : Type 0) (to : ℕ) (view : View) (slots : Slots) (small : froz
       let reach = flushes.short in
       omega (arith, few, reach, small)
   drawn_for_tick (inr (inl freezes)) = omega (arith, freezes)
-  drawn_for_tick (inr (inr merges)) = drawn_for_merge _ Tells view slots merges
+  drawn_for_tick (inr (inr few)) = drawn_for_task view slots few.task _ few.of few.bounded few.short
