@@ -215,9 +215,9 @@ module _ (begin : Start) (from : Point) (h more : History) (old : View) (on : Is
 -- The places of the changes that lines answer with `ok` come behind those before them
 
 module _ (c : Course) where
-  pub done_behind : (orders : List Line) → (n m : ℕ) → InTurn c n orders m → All (λ place. n < place) (filter_map ok_place orders)
+  pub done_behind : (lines : List Line) (n m : ℕ) → InTurn c n lines m → All (λ place. n < place) (filter_map ok_place lines)
   done_behind [] n m t = All-nil (λ place. n < place)
-  done_behind (line.Answer caller reply ∷ lines) n m t = by reply t.1 (follows_up c n t.0 reply t.1) (done_behind lines t.0 m t.2)
+  done_behind (line.Answer caller told ∷ lines) n m t = by told t.1 (follows_up c n t.0 told t.1) (done_behind lines t.0 m t.2)
     where
       weaker : (k : ℕ) → n ≤ k → All (λ place. k < place) (filter_map ok_place lines) → All (λ place. n < place) (filter_map ok_place lines)
       weaker k up = All-weaker (λ place. k < place) (λ place. n < place) (λ place below. omega (arith, up, below)) (filter_map ok_place lines)

@@ -1,9 +1,10 @@
 -- The first line that tells of a refusal.
 use Rattle.std.proofs.Common.{◌≡◌, ◌<◌, ◌≤◌, ℕ, suc, ◌+◌, Bool, true, false, ◌||◌, not, cond, List, [], ◌∷◌, ◌++◌, length, position, Some, None, refl, sym, ap, ◌∙◌, subst, arith, append_assoc, append-nil}
-use Rattle.std.specs.List.{list_any, position_or_len}
+use Rattle.std.specs.List.{list_any, position_or_len, sum_by}
 use Rattle.std.proofs.lemmas.Grind.{common_steps, flat_map-append}
 use Rattle.std.proofs.lemmas.List.{length-append}
 use Rattle.std.proofs.lemmas.List.Folds.{list_any-append}
+use Rattle.std.proofs.lemmas.List.Sums.{sum_by-append, sum_by-cons}
 use Rattle.lethe_script.specs.declared.order.Order.{Order}
 use Rattle.lethe_run.specs.declared.reply.Line.{Line}
 use Rattle.lethe_run.specs.declared.reply.Line.TheVariants as line
@@ -108,3 +109,13 @@ lines_many Ports from upto [] s [] t told = refl
 lines_many Ports from upto [] s (l ∷ lines) t told = absurd told
 lines_many Ports from upto (order ∷ orders) s [] t told = absurd told
 lines_many Ports from upto (order ∷ orders) s (line.Answer caller r ∷ lines) t told = ap suc (lines_many Ports from upto orders told.1 lines t told.3)
+
+-- so their numbers stay within the limit of a run's rounds
+pub lines_fit : (Ports : Type 0) (from upto : ℕ) (phases yielded rest : List (List Order)) (orders part left : List Order) (s : Standing) (lines : List Line) (t : Standing) (printed begun most : ℕ) → phases ≡ yielded ++ orders ∷ rest
+    → orders ≡ part ++ left → AreTold Ports from upto part s lines t → printed ≡ sum_by length yielded → begun + sum_by length phases ≤ most → printed + length lines ≤ most
+lines_fit Ports from upto phases yielded rest orders part left s lines t printed begun most are parts told printed_is few =
+    let all = ap (sum_by (length {A = Order})) are ∙ sum_by-append (length {A = Order}) yielded (orders ∷ rest) in
+    let first = sum_by-cons (length {A = Order}) orders rest in
+    let size = ap length parts ∙ length-append part left in
+    let many = lines_many Ports from upto part s lines t told in
+    omega (arith, all, first, size, many, printed_is, few)

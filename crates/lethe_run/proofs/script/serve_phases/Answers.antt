@@ -6,6 +6,7 @@ use Rattle.std.proofs.lemmas.List.Sums.{sum_by-append, sum_by-cons, sum_by_push}
 use Rattle.std.proofs.lemmas.Iterator.Consumers.{YieldsList-end}
 use Rattle.std.proofs.lemmas.Iterator.Adapters.{YieldsList-from_vec}
 use Rattle.lethe_base.specs.Counts.{Rose}
+use Rattle.lethe_base.specs.Limits.{max_place}
 use Rattle.lethe_core.specs.View.{view_of}
 use Rattle.lethe_script.specs.declared.order.Order.{Order}
 use Rattle.lethe_script.specs.Slots.{held_through, none_held}
@@ -16,7 +17,7 @@ use Rattle.lethe_run.specs.Scripts.{ScriptEnds}
 use Rattle.lethe_run.proofs.Endings.{Phase, Before, before_any, next_so_far, cut_ends, all_ends}
 use Rattle.lethe_run.proofs.Holding.{first_slots, none_shown}
 use Rattle.lethe_run.proofs.Phases.{appends_none, whole_text}
-use Rattle.lethe_run.proofs.Refusals.{all_more, lines_many}
+use Rattle.lethe_run.proofs.Refusals.{all_more, lines_fit, lines_many}
 use Rattle.lethe_run.proofs.Runs.{taken_next}
 use Rattle.lethe_run.proofs.Slotted.{flat_more, flat_parts, part_finds, part_holds}
 use Rattle.lethe_run.proofs.script.serve_phases.Goals as goal
@@ -179,3 +180,14 @@ serve_phase-served-requires-clause-slotted g c κs within =
     subst (λ orders. IsSome (held_through orders was)) (sym c.into_vec.ensures)
     (part_finds (flat_map (λ orders. orders) c.loop-orders.yielded) none_held was c.loop-orders.invariant.slotted orders (flat_map (λ orders. orders) rest)
     (subst (λ l. IsSome (held_through l none_held)) (flat_parts c.args.phases c.loop-orders.yielded rest orders are) c.requires.slotted))
+
+pub first_refusal-requires : goal.first_refusal-requires
+first_refusal-requires g c =
+    let mid = view_of c.loop-orders.engine.core in
+    let new = view_of c.serve_phase-served.new.engine.core in
+    let served = c.serve_phase-served.ensures.served in
+    let rest = c.next.new.self.rest.items in
+    let are : c.args.phases ≡ c.loop-orders.yielded ++ c.in-Some.orders ∷ rest =
+    taken_next c.args.phases c.into_iter-orders-iterator.result c.loop-orders.yielded c.loop-orders.orders-iterator c.in-Some.orders rest (c.into_iter-orders-iterator.ensures.into_iter_gives.0 ∙ c.into_vec-orders-items.ensures) c.loop-orders.yielded_by c.in-Some.ensures.steps.0 in
+    lines_fit g.D.Disk.ports_fail mid.faults new.faults c.args.phases c.loop-orders.yielded rest c.in-Some.orders served.0 served.1 (standing_of mid (slots_of mid c.loop-orders.slots.held.items)) c.serve_phase-served.result.lines.items
+    (standing_of new (slots_of new c.serve_phase-served.new.slots.held.items)) c.loop-orders.printed c.args.engine.core.begun.rounds max_place are (sym c.into_vec.ensures ∙ served.2) served.4 c.loop-orders.invariant.printed c.requires.rounds
