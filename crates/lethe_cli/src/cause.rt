@@ -6,8 +6,7 @@ use lethe_dirdisk::DirRefused;
 use lethe_reasons::{
     Message, NO_MEMORY_TO_SAY, bad_line, bad_words, damaged, folder_refused, gate_missing,
     no_memory, no_text, open_exhausted, open_fault, other_config, refused_answer, refused_call,
-    sink_failed,
-    source_failed,
+    sink_failed, source_failed,
 };
 use lethe_recover::OpenWhy;
 use lethe_run::Reason;
