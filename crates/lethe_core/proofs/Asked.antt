@@ -5,10 +5,12 @@ use Rattle.std.specs.Option.{option_map_or, option_or}
 use Rattle.lethe_base.specs.History.{History}
 use Rattle.lethe_base.specs.Limits.{max_place}
 use Rattle.lethe_base.specs.declared.call.Call.{Call}
+use Rattle.lethe_base.specs.declared.call.Call.TheVariants.{Tick}
 use Rattle.lethe_base.specs.declared.refused.Refused.{Refused}
 use Rattle.lethe_base.specs.declared.refused.Refused.TheVariants.{Exhausted, NoMemory}
 use Rattle.lethe_cover.specs.Steps.{with_failed}
-use Rattle.lethe_core.specs.Asked.{Asked, Failure, Makes, Serves, behind, counted, done_by, failure_of, refused_to, stopped_by, written_by}
+use Rattle.lethe_state.specs.Clock.{Clock}
+use Rattle.lethe_core.specs.Asked.{Asked, Failure, Makes, Serves, behind, clock_behind, counted, done_by, failure_of, refused_to, stopped_by, written_by}
 
 pub not_none : (failure : Failure) → Some failure ≡ None → ⊥
 not_none failure none = cc
@@ -27,6 +29,11 @@ behind_none h caller (Serves call) why none = refused_none h caller call why non
 pub counted_none : (asked : Asked) (why : Refused) (count : ℕ) → failure_of why ≡ None → counted asked (Some why) count ≡ count
 counted_none (Makes call) why count none = ap (λ f. option_map_or (λ failure. count + 1) f count) none
 counted_none (Serves call) why count none = ap (λ f. option_map_or (λ failure. count + 1) f count) none
+
+-- whatever was refused, the clock stands
+pub clock_refused : (asked : Asked) (why : Refused) (clock : Clock) → clock_behind asked (Some why) clock ≡ clock
+clock_refused (Makes (Tick to)) why clock = refl
+clock_refused asked why clock = refl
 
 pub stopped_none : (why : Refused) (stopped : Option ℕ) → failure_of why ≡ None → stopped_by (Some why) stopped ≡ stopped
 stopped_none why stopped none = ap (λ f. option_or (option_map (λ failure. failure.place) f) stopped) none

@@ -76,6 +76,7 @@ keeps_since Tells old mid new before why earlier keeps =
       sound = both.sound;
       count = both.count ∙ ap (λ f. option_map_or (λ failure. old.state.count + 1) f old.state.count) same;
       stopped = both.stopped ∙ ap (λ f. option_or (option_map (λ failure. failure.place) f) old.state.stopped) same;
+      clock = both.clock;
       stands = λ told config h stands caller call.
           subst (λ f. StandsNow config (option_map_or (λ failure. with_failed h caller call failure.before failure.after) f h) new) same (both.stands told config h stands caller call);
       any_moment = both.any_moment;

@@ -19,6 +19,7 @@ use Rattle.lethe_stored.specs.Numbers.{GoesFrom}
 use Rattle.lethe_stored.specs.Stored.{Stored}
 use Rattle.lethe_stored.proofs.Numbers.{goes_from_then}
 use Rattle.lethe_advance.specs.Settled.{AreDrawn}
+use Rattle.lethe_state.specs.Clock.{clock_of}
 use Rattle.lethe_state.specs.Records.{IsLike, halted}
 use Rattle.lethe_state.specs.Remembered.{Remembers}
 use Rattle.lethe_state.specs.Writable.{IsWritable}
@@ -171,6 +172,11 @@ module _ (Tells : Type 0) (old new : View) (before : ℕ) where
   hindered_next NoMemory is = ap (λ (state : State). state.next) is.0
   hindered_next why is = absurd is
 
+  pub hindered_clock : (why : Refused) → IsHindered Tells old new before why → clock_of new.state.manifest ≡ clock_of old.state.manifest
+  hindered_clock (Fault place b a) is = ap (λ (state : State). clock_of state.manifest) is.4
+  hindered_clock NoMemory is = ap (λ (state : State). clock_of state.manifest) is.0
+  hindered_clock why is = absurd is
+
   module _ (config : Fields) (h : History) (stands : StandsNow config h old) (runs : old.state.stopped ≡ None) where
     halted_stands : old.state.count < max_place → GoesFrom old.state.next (λ c. IsKept config c h) old.disk new.disk → Image new.disk new.disk.directory → (caller : ℕ) (call : Call) (b a : ℕ)
         → StandsNow config (refused_to h caller call (Fault 0 b a)) (beside old new (halted old.state))
@@ -197,6 +203,7 @@ hindered_keeps Tells old new before may why is goes itself later faults kept = r
   sound = hindered_sound Tells old new before may.fits may.sound why is;
   count = hindered_count Tells old new before why is;
   stopped = hindered_stopped Tells old new before why is;
+  clock = hindered_clock Tells old new before why is;
   stands = λ told config h stands caller call. hindered_stands Tells old new before config h stands may.runs told may.fits (goes told config h stands) (itself told) caller call why is;
   any_moment = goes;
   numbers = λ told. let same = hindered_next Tells old new before why is in let on = later told in omega (arith, same, on);
@@ -213,6 +220,7 @@ keeps_itself Tells view sound runs None none = record {
   sound = sound;
   count = refl;
   stopped = refl;
+  clock = refl;
   stands = λ told config h stands caller call. stands;
   any_moment = λ told config h stands. stands_moments config h view stands runs sound.writable;
   numbers = λ told. omega arith;
@@ -226,6 +234,7 @@ keeps_itself Tells view sound runs (Some why) none = record {
   sound = sound;
   count = sym (counted_none (Serves Work) why view.state.count none);
   stopped = sym (stopped_none why view.state.stopped none);
+  clock = refl;
   stands = λ told config h stands caller call. subst (λ g. StandsNow config g view) (sym (refused_none h caller call why none)) stands;
   any_moment = λ told config h stands. stands_moments config h view stands runs sound.writable;
   numbers = λ told. omega arith;
@@ -244,6 +253,7 @@ keeps_then Tells a b c one why two =
       sound = two.sound;
       count = two.count ∙ ap (counted (Serves Work) why) one.count;
       stopped = two.stopped ∙ ap (stopped_by why) one.stopped;
+      clock = two.clock ∙ one.clock;
       stands = λ told config h stands caller call. two.stands told config h (mid told config h stands) caller call;
       any_moment = λ told config h stands.
           goes_from_then (λ d. IsKept config d h) a.state.next b.state.next a.disk b.disk c.disk (one.any_moment told config h stands) (one.numbers told) (two.any_moment told config h (mid told config h stands));

@@ -33,6 +33,7 @@ use Rattle.lethe_advance.specs.Settled.{AreDrawn, AreUncited, HasOnly, IsSettled
 use Rattle.lethe_advance.specs.Steps.{HasStayed, IsStep}
 use Rattle.lethe_advance.specs.Untorn.{IsUntorn}
 use Rattle.lethe_advance.specs.declared.step.Step.{Step}
+use Rattle.lethe_state.specs.Clock.{clock_of}
 use Rattle.lethe_state.specs.Left.{installed}
 use Rattle.lethe_state.specs.Remembered.{IsCurrent, Remembers}
 use Rattle.lethe_state.specs.Room.{IsStepFrom}
@@ -234,7 +235,7 @@ module _ (old : View) (disk : Seen) (faults : ℕ) (levels : List (List Parts)) 
 
   -- What the step keeps
 
-  module _ (Tells : Type 0) (before : ℕ) (can : MayStep Tells old before) (from : IsStepFrom (segments_for old.state.frozen) old.state made.headers.items step)
+  module _ (Tells : Type 0) (before : ℕ) (can : MayStep Tells old before) (from : IsStepFrom (segments_for old.state.frozen) (clock_of old.state.manifest) old.state made.headers.items step)
       (merges : Tells → (s : Stored) → Holds old s → (task : PlainTask) × (t : Stored) × MayMerge old rest s task t made × ((config : Fields) (h : History) → StandsNow config h old → IsCounted task)) where
     pub merge_moments : (Tells → (s t : Stored) (left : List (Name × List ℕ)) → IsRunning old s → IsStep s (beside_in old) t left made.headers.items step → (h g : History) → IsFor h s → IsFor g t
         → s.manifest.next ≤ old.state.next → t.manifest.next ≤ old.state.next + length step.objects.items + 1
@@ -292,6 +293,7 @@ module _ (old : View) (disk : Seen) (faults : ℕ) (levels : List (List Parts)) 
         };
         count = refl;
         stopped = refl;
+        clock = from.clock_is;
         stands = λ told config h stands caller call. merge_stands told config h stands;
         any_moment = moments;
         numbers = λ told.

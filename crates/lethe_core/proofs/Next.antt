@@ -18,6 +18,7 @@ use Rattle.lethe_advance.specs.Settled.{AreDrawn, AreUncited, names_in}
 use Rattle.lethe_advance.specs.Steps.{HasStayed, IsStep}
 use Rattle.lethe_advance.specs.declared.new_header.NewHeader.{NewHeader}
 use Rattle.lethe_advance.specs.declared.step.Step.{Step}
+use Rattle.lethe_state.specs.Clock.{clock_of}
 use Rattle.lethe_state.specs.Remembered.{IsCurrent, Remembers}
 use Rattle.lethe_state.specs.Room.{IsFlushed, IsFrozen, IsStepFrom}
 use Rattle.lethe_state.specs.Writable.{IsWritable}
@@ -101,7 +102,7 @@ module _ (P : Stored → Stored → Type 0) (Tells : Type 0) (old : View) (heade
 
   module _ (new : View) (stays : (h : History) (s t : Stored) → Holds old s → IsFor h s → P s t → IsFor h t) where
     -- a crash at any moment leaves what stands for the history
-    pub next_moments : (segments : ℕ) → IsStepFrom segments old.state headers step
+    pub next_moments : (segments : ℕ) → IsStepFrom segments (clock_of old.state.manifest) old.state headers step
         → (Tells → (s t : Stored) (left : List (Name × List ℕ)) → IsRunning old s → IsStep s (beside_in old) t left headers step → (h g : History) → IsFor h s → IsFor g t
         → s.manifest.next ≤ old.state.next → t.manifest.next ≤ old.state.next + length step.objects.items + 1
         → GoesFrom old.state.next (λ c. IsKept s.manifest.config c h ⊎ IsKept s.manifest.config c g) old.disk new.disk)
@@ -158,7 +159,7 @@ module _ (P : Stored → Stored → Type 0) (Tells : Type 0) (old : View) (heade
           (subst (All (λ (flying : Flying). IsCounted flying.task)) (sym carried.flights) stands.counted)
           (later h s t.0 holds (stands_for config h old stands may.runs) stands.recorded t.1) (next_timely told config.threshold h s holds (stands.timely may.runs))
 
-      pub next_keeps : ((h : History) (s t : Stored) → Holds old s → IsFor h s → AreLaterRecorded s → P s t → AreLaterRecorded t) → (segments : ℕ) → IsStepFrom segments old.state headers step → new.state.manifest ≡ step.manifest → new.state.next ≡ step.manifest.next → new.state.count ≡ old.state.count
+      pub next_keeps : ((h : History) (s t : Stored) → Holds old s → IsFor h s → AreLaterRecorded s → P s t → AreLaterRecorded t) → (segments : ℕ) → IsStepFrom segments (clock_of old.state.manifest) old.state headers step → new.state.manifest ≡ step.manifest → new.state.next ≡ step.manifest.next → new.state.count ≡ old.state.count
           → new.state.stopped ≡ old.state.stopped → IsWritable new.state → IsSmall new.state → Keeps Tells old new None
       next_keeps later segments from manifest next count stopped writable small =
           let config : new.state.manifest.config ≡ old.state.manifest.config = ap (λ (m : Manifest). m.config) manifest ∙ from.config in
@@ -185,6 +186,7 @@ module _ (P : Stored → Stored → Type 0) (Tells : Type 0) (old : View) (heade
             };
             count = count;
             stopped = stopped;
+            clock = ap clock_of manifest ∙ from.clock_is;
             stands = λ told config h stands caller call. next_stands later told count config h stands;
             any_moment = next_moments segments from carried.moments;
             numbers = λ told. let made = carried.calls told in omega (arith, made, number, above, next);

@@ -330,6 +330,7 @@ module _ (Tells : Type 0) (old : View) (number : ℕ) (flying : Flying) (is : fl
       sound = written_sound;
       count = refl;
       stopped = refl;
+      clock = refl;
       stands = λ told config h stands caller call.
           let holds = stands_holds config h old stands runs in
           next_stands_now config h old now stands runs stands.stored refl refl (stands_for config h old stands runs) (written_holds told stands.stored holds)

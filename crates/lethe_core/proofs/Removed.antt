@@ -185,6 +185,7 @@ module _ (Tells : Type 0) (old : View) (sound : IsSound Tells old) (runs : old.s
         sound = removed_sound;
         count = refl;
         stopped = refl;
+        clock = refl;
         stands = λ told config h stands caller call.
             next_stands_now config h old alone stands runs stands.stored refl refl (stands_for config h old stands runs) (removed_holds told stands.stored (stands_holds config h old stands runs))
             (all_left_of (λ (flying : Flying). IsCounted flying.task) old.flights rest are stands.counted) stands.recorded
@@ -235,6 +236,7 @@ module _ (rest : List Flying) where
     };
     count = is.count;
     stopped = is.stopped;
+    clock = is.clock;
     stands = λ told config h stands caller call. grounded_stands config (behind h caller (Serves call) why) new at are stopped (is.stands told config h stands caller call);
     any_moment = is.any_moment;
     numbers = is.numbers;

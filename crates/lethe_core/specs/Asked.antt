@@ -3,10 +3,12 @@ use Rattle.std.specs.Prelude.{ℕ, ◌+◌, Option, Some, None, option_map}
 use Rattle.std.specs.Option.{option_map_or, option_or}
 use Rattle.lethe_base.specs.History.{History, Change}
 use Rattle.lethe_base.specs.declared.call.Call.{Call}
+use Rattle.lethe_base.specs.declared.call.Call.TheVariants.{Tick}
 use Rattle.lethe_base.specs.declared.call.Did.TheVariants.{Done}
 use Rattle.lethe_base.specs.declared.refused.Refused.{Refused}
 use Rattle.lethe_base.specs.declared.refused.Refused.TheVariants.{Fault, Stopped, Backwards, Pinned, NothingDue, Cancelled, Exhausted, ReadFault, NoMemory, Damaged}
 use Rattle.lethe_cover.specs.Steps.{with_done, with_failed}
+use Rattle.lethe_state.specs.Clock.{Clock, clock_at}
 
 pub data Asked : Type 0 where
   -- to make a change
@@ -58,6 +60,11 @@ counted asked (Some why) count = option_map_or (λ failure. count + 1) (failure_
 abbrev pub stopped_by : Option Refused → Option ℕ → Option ℕ
 stopped_by None stopped = stopped
 stopped_by (Some why) stopped = option_or (option_map (λ failure. failure.place) (failure_of why)) stopped
+
+-- the clock behind it: a tick that is done moves it to its time, and nothing else changes it
+abbrev pub clock_behind : Asked → Option Refused → Clock → Clock
+clock_behind (Makes (Tick to)) None clock = clock_at clock to
+clock_behind asked why clock = clock
 
 -- a change that is carried out
 abbrev pub done_by : ℕ → Call → Change

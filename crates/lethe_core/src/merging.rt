@@ -8,6 +8,7 @@ ghost use Rattle.lethe_base.specs.declared.refused.Refused.TheVariants as refuse
 ghost use Rattle.lethe_header.specs.Headers as header;
 ghost use Rattle.lethe_stored.specs.Stored.{Stored};
 ghost use Rattle.lethe_advance.specs.Calls.{most_calls};
+ghost use Rattle.lethe_state.specs.Clock.{clock_of};
 ghost use Rattle.lethe_state.specs.Room.{IsStepFrom};
 ghost use Rattle.lethe_state.specs.Writable.{segments_for};
 ghost use Rattle.lethe_job.specs.Jobs.{told_as};
@@ -226,7 +227,7 @@ impl<D: Disk> Core<D> {
     ) -> Result<(), Refused>
         requires may { MayStep D.tells (view_of self.old) before }
         requires headers { All (λ new. header.HasSpelling new.header) made.headers.items }
-        requires from { IsStepFrom (segments_for self.old.state.frozen) self.old.state made.headers.items made.step }
+        requires from { IsStepFrom (segments_for self.old.state.frozen) (clock_of self.old.state.manifest) self.old.state made.headers.items made.step }
         requires merges { D.tells → (s : Stored) → Holds (view_of self.old) s → (task : PlainTask) × (t : Stored) × MayMerge (view_of self.old) (flights_behind ends self.old.flights) s task t made
             × ((config : Fields) (h : History) → StandsNow config h (view_of self.old) → IsCounted task) }
         requires named { AreNamed (view_of self.old).pins.pins made.left.items }

@@ -51,8 +51,9 @@ impl<D: Disk> Core<D> {
             → GoesFrom self.old.state.next (IsKeptOr config h (written_by caller (Makes call) (result_err result))) (D.seen self.old.disk) (D.seen self.new.disk) }
         ensures written { D.tells → (s : Stored) → Holds (view_of self.old) s
             → OnOk result (Holds (view_of self.new) (appended s next) × ((D.seen self.new.disk).directory ≡ with_record (D.seen self.old.disk).directory s next)) }
-        // The buffers have it, on any disk.
+        // The buffers have it, on any disk. The manifest stays, whatever is answered.
         ensures entered { OnOk result (HasEntered next self.old.state self.new.state) }
+        ensures manifest { self.new.state.manifest ≡ self.old.state.manifest }
         ensures version { self.new.version ≡ self.old.version }
         ensures retired { self.new.retired ≡ self.old.retired }
         ensures flights { self.new.flights ≡ self.old.flights }

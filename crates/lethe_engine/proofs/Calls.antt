@@ -15,9 +15,10 @@ use Rattle.lethe_stored.specs.Left.{IsKeptOr}
 use Rattle.lethe_stored.specs.Numbers.{GoesFrom}
 use Rattle.lethe_stored.specs.Stored.{Stored}
 use Rattle.lethe_stored.proofs.Numbers.{goes_from_then}
+use Rattle.lethe_state.specs.Clock.{Clock, clock_of}
 use Rattle.lethe_state.specs.declared.state.State.{State}
 use Rattle.lethe_pins.specs.Held.{Held, is_named}
-use Rattle.lethe_core.specs.Asked.{Asked, Makes, Serves, behind, counted, failure_of, stopped_by, written_by}
+use Rattle.lethe_core.specs.Asked.{Asked, Makes, Serves, behind, clock_behind, counted, failure_of, stopped_by, written_by}
 use Rattle.lethe_core.specs.Keeps.{Keeps}
 use Rattle.lethe_core.specs.Merges.{IsRoomBegun, IsRoomMadeBy, Outcome}
 use Rattle.lethe_core.specs.Pinned.{AreKept, AreRetiredFrom}
@@ -26,7 +27,7 @@ use Rattle.lethe_core.specs.Running.{Holds, IsSound}
 use Rattle.lethe_core.specs.StandsNow.{StandsNow}
 use Rattle.lethe_core.specs.Steps.{IsDoneInPart, IsUndone}
 use Rattle.lethe_core.specs.View.{Flying, View, face_of}
-use Rattle.lethe_core.proofs.Asked.{behind_none, counted_none, stopped_none}
+use Rattle.lethe_core.proofs.Asked.{behind_none, clock_refused, counted_none, stopped_none}
 use Rattle.lethe_core.proofs.Hindered.{as_itself, like_of}
 use Rattle.lethe_core.proofs.Likes.{before_holds}
 use Rattle.lethe_core.proofs.Roomed.{room_begun}
@@ -68,17 +69,19 @@ idle_itself view = record { directory = refl; moment = refl; left = λ m c. (λ 
 pub record IsNoChange (asked : Asked) (why : Option Refused) : Type 0 where
   pub count : (count : ℕ) → counted asked why count ≡ count
   pub stopped : (stopped : Option ℕ) → stopped_by why stopped ≡ stopped
+  pub clock : (clock : Clock) → clock_behind asked why clock ≡ clock
   pub history : (h : History) (caller : ℕ) → behind h caller asked why ≡ h
 
 pub refused_is_none : (asked : Asked) (why : Refused) → failure_of why ≡ None → IsNoChange asked (Some why)
 refused_is_none asked why none = record {
   count = λ count. counted_none asked why count none;
   stopped = λ stopped. stopped_none why stopped none;
+  clock = clock_refused asked why;
   history = λ h caller. behind_none h caller asked why none;
 }
 
 pub served_is_none : (call : Call) → IsNoChange (Serves call) None
-served_is_none call = record { count = λ count. refl; stopped = λ stopped. refl; history = λ h caller. refl }
+served_is_none call = record { count = λ count. refl; stopped = λ stopped. refl; clock = λ clock. refl; history = λ h caller. refl }
 
 idle_moments : (P : Directory → Type 0) (old new : View) → IsIdle old.disk new.disk → new.state.next ≡ old.state.next → GoesFrom new.state.next P new.disk new.disk → GoesFrom old.state.next P old.disk new.disk
 idle_moments P old new idle next run = let same = idle.moment in record {
@@ -100,6 +103,7 @@ itself_answers Tells asked why view sound none = record {
   sound = sound;
   count = sym (none.count view.state.count);
   stopped = sym (none.stopped view.state.stopped);
+  clock = sym (none.clock (clock_of view.state.manifest));
   stands = λ told config opened h before caller. same config opened h before caller;
   goes = λ told config opened h before caller. idle_goes config opened h (behind h caller asked why) view view before (same config opened h before caller) (idle_itself view);
   any_moment = λ told config h now runs caller. moments_or config h (written_by caller asked why) view.state.next view.disk view.disk (stands_moments config h view now runs sound.writable);
@@ -129,6 +133,7 @@ idle_answers Tells why old new sound state levels retired faults idle now none =
   sound = sound;
   count = ap (λ (state : State). state.count) state ∙ sym (none.count old.state.count);
   stopped = ap (λ (state : State). state.stopped) state ∙ sym (none.stopped old.state.stopped);
+  clock = ap (λ (state : State). clock_of state.manifest) state ∙ sym (none.clock (clock_of old.state.manifest));
   stands = same;
   goes = λ told config opened h before caller. idle_goes config opened h (behind h caller (Serves Work) why) old new before (same told config opened h before caller) (idle told);
   any_moment = λ told config h before runs caller. moments_or config h None old.state.next old.disk new.disk
@@ -168,6 +173,7 @@ step_answers Tells Short why old new before runs is keeps reason undone = record
   sound = keeps.sound;
   count = keeps.count;
   stopped = keeps.stopped;
+  clock = keeps.clock;
   stands = worked;
   goes = λ told config opened h stands caller.
       goes_by (λ c. IsKept config c h) config opened h (behind h caller (Serves Work) why) old new stands (worked told config opened h stands caller) (keeps.any_moment told config h stands.now).goes;
@@ -193,14 +199,16 @@ step_answers Tells Short why old new before runs is keeps reason undone = record
 module _ (Tells : Type 0) (call : Call) (works : call ≡ Work → ⊥) (old : View) (runs : old.state.stopped ≡ None) where
   -- the change was made, or wasn't, as its steps say together
   pub made_answers : (new : View) (why : Option Refused) → IsSound Tells new → new.state.count ≡ counted (Makes call) why old.state.count → new.state.stopped ≡ stopped_by why old.state.stopped
+      → clock_of new.state.manifest ≡ clock_behind (Makes call) why (clock_of old.state.manifest)
       → (Tells → (config : Fields) (h : History) (caller : ℕ) → StandsNow config h old → StandsNow config (behind h caller (Makes call) why) new)
       → (Tells → (config : Fields) (h : History) (caller : ℕ) → StandsNow config h old → GoesFrom old.state.next (IsKeptOr config h (written_by caller (Makes call) why)) old.disk new.disk)
       → (Tells → new.state.next + old.disk.moment ≤ old.state.next + new.disk.moment) → old.state.next ≤ new.state.next → old.faults ≤ new.faults → IfSome why (IsTold old.faults new.faults)
       → IfSome why (IsRefused Tells (Makes call) old new) → AreRetiredFrom old.pins.pins old.retired new.retired → (Tells → AreKept old.pins.pins old.disk.directory new.disk.directory) → Answers Tells (Makes call) why (face_of new) old new
-  made_answers new why sound count stopped stands moments numbers drawn faults reason refused retired kept = record {
+  made_answers new why sound count stopped clock stands moments numbers drawn faults reason refused retired kept = record {
     sound = sound;
     count = count;
     stopped = stopped;
+    clock = clock;
     stands = answered;
     goes = λ told config opened h before caller.
         goes_by (IsKeptOr config h (written_by caller (Makes call) why)) config opened h (behind h caller (Makes call) why) old new before (answered told config opened h before caller) (moments told config h caller before.now).goes;
@@ -224,14 +232,14 @@ module _ (Tells : Type 0) (call : Call) (works : call ≡ Work → ⊥) (old : V
   pub unroomed_answers : (PortsFail : Type 0) (first last : ℕ) (new : View) (why : Refused) → Keeps Tells old new (Some why) → HasReasonOfChange Tells PortsFail old new first last why → (IsReadyFor call old.state → ⊥)
       → IsDoneInPart Tells (IsBegun call old.flights) old new why → Answers Tells (Makes call) (Some why) (face_of new) old new
   unroomed_answers PortsFail first last new why keeps reason full partly =
-      made_answers new (Some why) keeps.sound keeps.count keeps.stopped (λ told config h caller before. keeps.stands told config h before caller call)
+      made_answers new (Some why) keeps.sound keeps.count keeps.stopped (keeps.clock ∙ sym (clock_refused (Makes call) why (clock_of old.state.manifest))) (λ told config h caller before. keeps.stands told config h before caller call)
       (λ told config h caller before. moments_or config h (written_by caller (Makes call) (Some why)) old.state.next old.disk new.disk (keeps.any_moment told config h before)) keeps.numbers keeps.drawn keeps.faults
       (changes_told Tells PortsFail old new first last why reason) ((λ ready. absurd (full ready)), partly) keeps.retired keeps.pinned
 
   -- room was made, and then the record was appended, or wasn't
   module _ (mid new : View) (why : Option Refused) (room : Keeps Tells old mid None) (made : Tells → (s : Stored) → Holds old s → (t : Stored) × (outcomes : List Outcome) × IsRoomMadeBy old.flights s outcomes t × Holds mid t)
       (begun : (s t : Stored) → IsRoomBegun old.flights s t → IsBegun call old.flights s t) (same : IsReadyFor call old.state → mid ≡ old) (face : face_of new ≡ face_of mid) (sound : IsSound Tells new)
-      (count : new.state.count ≡ counted (Makes call) why mid.state.count) (stopped : new.state.stopped ≡ stopped_by why mid.state.stopped)
+      (count : new.state.count ≡ counted (Makes call) why mid.state.count) (stopped : new.state.stopped ≡ stopped_by why mid.state.stopped) (clock : clock_of new.state.manifest ≡ clock_behind (Makes call) why (clock_of mid.state.manifest))
       (reason : IfSome why (HasReason ⊥ mid.state old.faults new.faults)) (undone : IfSome why (IsUndone Tells mid new)) (numbers : Tells → new.state.next + mid.disk.moment ≤ mid.state.next + new.disk.moment) (drawn : mid.state.next ≤ new.state.next)
       (faults : mid.faults ≤ new.faults) (retired : new.retired ≡ mid.retired) (pins : new.pins ≡ mid.pins) (kept : Tells → AreKept mid.pins.pins mid.disk.directory new.disk.directory) where
     recorded_refused : (why : Option Refused) → IfSome why (IsUndone Tells mid new) → IfSome why (IsRefused Tells (Makes call) old new)
@@ -247,7 +255,7 @@ module _ (Tells : Type 0) (call : Call) (works : call ≡ Work → ⊥) (old : V
         → (Tells → (config : Fields) (h : History) (caller : ℕ) → StandsNow config h mid → GoesFrom mid.state.next (IsKeptOr config h (written_by caller (Makes call) why)) mid.disk new.disk)
         → Answers Tells (Makes call) why (face_of mid) old new
     recorded_answers stands moments = subst (λ at. Answers Tells (Makes call) why at old new) face
-        (made_answers new why sound (count ∙ ap (counted (Makes call) why) room.count) (stopped ∙ ap (stopped_by why) room.stopped) (λ told config h caller before. stands told config h caller (behind_room told config h before)) whole
+        (made_answers new why sound (count ∙ ap (counted (Makes call) why) room.count) (stopped ∙ ap (stopped_by why) room.stopped) (clock ∙ ap (clock_behind (Makes call) why) room.clock) (λ told config h caller before. stands told config h caller (behind_room told config h before)) whole
         paced risen rose (reasons_told ⊥ mid.state old.faults new.faults why reason) (recorded_refused why undone) left pinned)
       where
         paced : Tells → new.state.next + old.disk.moment ≤ old.state.next + new.disk.moment

@@ -7,6 +7,7 @@ use Rattle.lethe_base.specs.History.{History}
 use Rattle.lethe_base.specs.declared.config.Fields.{Fields}
 use Rattle.lethe_base.specs.declared.refused.Refused.{Refused}
 use Rattle.lethe_base.specs.declared.refused.Refused.TheVariants.{Fault, Stopped, Backwards, Pinned, NothingDue, Cancelled, Exhausted, ReadFault, NoMemory, Damaged}
+use Rattle.lethe_state.specs.Clock.{clock_of}
 use Rattle.lethe_core.specs.Asked.{Failure}
 use Rattle.lethe_core.specs.Running.{IsSound}
 use Rattle.lethe_core.specs.View.{View, face_of}
@@ -51,14 +52,15 @@ failure_counted old new (Some (Cancelled begun now)) rest left failed is = absur
 failure_counted old new (Some (ReadFault before after)) rest left failed is = absurd is
 failure_counted old new (Some (Damaged name)) rest left failed is = absurd is
 
-pub row_answers : (Tells : Type 0) (asked left : List Asked) (done : ℕ) (refused : Option Refused) (old new : View) → old.state.stopped ≡ None → face_of new ≡ face_of old → new.retired ≡ old.retired → IsRow Tells asked left done refused old new
+pub row_answers : (Tells : Type 0) (asked left : List Asked) (done : ℕ) (refused : Option Refused) (old new : View) → old.state.stopped ≡ None → clock_of new.state.manifest ≡ clock_of old.state.manifest → face_of new ≡ face_of old → new.retired ≡ old.retired → IsRow Tells asked left done refused old new
     → AnswersRow Tells asked left done refused old new
-row_answers Tells asked left done refused old new runs face retired row = record {
+row_answers Tells asked left done refused old new runs clock face retired row = record {
   row = row;
   stands = stands;
   goes = λ told config opened h before caller.
       goes_by (IsKeptAlong config h caller (tried row.made row.failed)) config opened h (row_behind h caller row.made row.failed) old new before (stands told config opened h before caller) (row.any_moment told config h before.now runs caller).goes;
   idle = λ stopped. absurd (false≢true (subst IsSome runs stopped));
+  clock = clock;
   face_is = face;
   retired = retired;
   drawn = row.drawn;
@@ -78,6 +80,7 @@ stopped_answers Tells asked view sound stopped = record {
   stands = same;
   goes = λ told config opened h before caller. idle_goes config opened h (with_all h caller []) view view before (same told config opened h before caller) (idle_itself view);
   idle = λ still. (refl, refl, refl, record { state = refl; levels = refl; faults = refl; disk = λ told. idle_itself view });
+  clock = refl;
   face_is = refl;
   retired = refl;
   drawn = omega arith;

@@ -10,8 +10,9 @@ use Rattle.lethe_disk.specs.Goes.{Goes}
 use Rattle.lethe_stored.specs.Left.{IsKeptOr}
 use Rattle.lethe_stored.specs.Numbers.{GoesFrom}
 use Rattle.lethe_stored.specs.Stored.{Stored}
+use Rattle.lethe_state.specs.Clock.{clock_of}
 use Rattle.lethe_state.specs.declared.state.State.{State}
-use Rattle.lethe_core.specs.Asked.{Asked, Makes, Serves, behind, counted, stopped_by, written_by}
+use Rattle.lethe_core.specs.Asked.{Asked, Makes, Serves, behind, clock_behind, counted, stopped_by, written_by}
 use Rattle.lethe_core.specs.Merges.{IsRoomBegun}
 use Rattle.lethe_core.specs.Pinned.{AreKeptBy, AreRetiredFrom}
 use Rattle.lethe_core.specs.Running.{IsSound}
@@ -56,6 +57,8 @@ pub record Answers (Tells : Type 0) (asked : Asked) (why : Option Refused) (face
   -- it counts a change that was made, and a call in which the disk failed, which stops it
   pub count : new.state.count ≡ counted asked why old.state.count
   pub stopped : new.state.stopped ≡ stopped_by why old.state.stopped
+  -- a tick that is done moves the clock to its time, and prepares a certificate where that is due; nothing else changes it
+  pub clock : clock_of new.state.manifest ≡ clock_behind asked why (clock_of old.state.manifest)
   -- over a store that stands for a history it stands for that with the call, done or failed, or for the same where it was refused
   pub stands : Tells → (config : Fields) (opened : Opened) (h : History) → StandsSince config opened h old → (caller : ℕ) → StandsSince config opened (behind h caller asked why) new
   -- A crash at any moment of the call leaves what is kept for a prefix of what a crash may make of that history, which is not shorter than the opened one; what a crash

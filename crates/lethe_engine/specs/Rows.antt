@@ -4,6 +4,7 @@ use Rattle.lethe_base.specs.History.{History}
 use Rattle.lethe_base.specs.declared.config.Fields.{Fields}
 use Rattle.lethe_base.specs.declared.refused.Refused.{Refused}
 use Rattle.lethe_disk.specs.Goes.{Goes}
+use Rattle.lethe_state.specs.Clock.{clock_of}
 use Rattle.lethe_core.specs.View.{View, face_of}
 use Rattle.lethe_row.specs.Along.{IsRow, row_behind}
 pub use Rattle.lethe_row.specs.Deletes.{IsDeleteOver}
@@ -20,6 +21,8 @@ pub record AnswersRow (Tells : Type 0) (asked left : List Asked) (done : ℕ) (r
   pub goes : Tells → (config : Fields) (opened : Opened) (h : History) → StandsSince config opened h old → (caller : ℕ) → Goes (IsKeptFor config opened.history (row_behind h caller row.made row.failed)) old.disk new.disk
   -- of a store that was stopped before no change is made, and nothing is done
   pub idle : IsSome old.state.stopped → (done ≡ 0) × (refused ≡ None) × (left ≡ asked) × IsStill Tells old new
+  -- the clock stands
+  pub clock : clock_of new.state.manifest ≡ clock_of old.state.manifest
   -- jobs and pins stay as they are, and the pages that are retired
   pub face_is : face_of new ≡ face_of old
   pub retired : new.retired ≡ old.retired

@@ -55,6 +55,7 @@ impl<D: Disk> Engine<D> {
     pub fn open(alloc: Global, mut disk: D, config: &Config) -> Result<Engine<D>, OpenRefused<D>>
         ensures sound { IfOk result (λ engine. IsSound D.tells (view_of engine.core)) }
         ensures runs { IfOk result (λ engine. engine.core.state.stopped ≡ None) }
+        ensures config_is { IfOk result (λ engine. engine.core.state.manifest.config ≡ config.now) }
         ensures face { IfOk result (λ engine. face_of (view_of engine.core) ≡ no_jobs) }
         ensures certificates { IfOk result (λ engine. engine.certificates.items ≡ []) }
         ensures nothing { IfOk result (λ engine. ((view_of engine.core).retired ≡ []) × ((view_of engine.core).pins ≡ record { pins = []; made = 0 })) }

@@ -34,6 +34,7 @@ pub fn record_row<D: Disk>(core: &mut Core<D>, alloc: Global, asked: &mut VecDeq
     requires sound { IsSound D.tells (view_of core.old) }
     requires runs { core.old.state.stopped ≡ None }
     ensures row { IsRow D.tells asked.old.items asked.new.items result.done result.refused (view_of core.old) (view_of core.new) }
+    ensures manifest { core.new.state.manifest ≡ core.old.state.manifest }
     ensures version { core.new.version ≡ core.old.version }
     ensures retired { core.new.retired ≡ core.old.retired }
     ensures flights { core.new.flights ≡ core.old.flights }

@@ -65,6 +65,7 @@ pub fn hold<D: Disk>(
     ensures any_moment { D.tells → (config : Fields) (h : History) → StandsNow config h (view_of core.old)
         → GoesFrom core.old.state.next (λ c. IsKept config c h) (D.seen core.old.disk) (D.seen core.new.disk) }
     ensures calls { D.tells → OnOk result ((D.seen core.new.disk).moment ≡ (D.seen core.old.disk).moment + 2) }
+    ensures manifest { core.new.state.manifest ≡ core.old.state.manifest }
     ensures version { core.new.version ≡ core.old.version }
     ensures retired { core.new.retired ≡ core.old.retired }
     ensures flights { core.new.flights ≡ core.old.flights }
@@ -133,6 +134,7 @@ pub fn pass_on<D: Disk>(
         → (stands : StandsNow config h (at_rest (view_of core.old) d)) → IsFor (with_done h caller call) (appended stands.stored waiting.old.record)
         → GoesFrom core.old.state.next (IsKeptOr config h (Some (done_by caller call))) (D.seen core.old.disk) (D.seen core.new.disk) }
     ensures calls { D.tells → result ≡ Ok true → (D.seen core.new.disk).moment ≡ (D.seen core.old.disk).moment + 3 }
+    ensures manifest { core.new.state.manifest ≡ core.old.state.manifest }
     ensures version { core.new.version ≡ core.old.version }
     ensures retired { core.new.retired ≡ core.old.retired }
     ensures flights { core.new.flights ≡ core.old.flights }
@@ -193,6 +195,7 @@ pub fn count_last<D: Disk>(
         → (stands : StandsNow config h (at_rest (view_of core.old) d)) → IsFor (with_done h caller call) (appended stands.stored waiting.record)
         → GoesFrom core.old.state.next (IsKeptOr config h (Some (done_by caller call))) (D.seen core.old.disk) (D.seen core.new.disk) }
     ensures calls { D.tells → OnOk result ((D.seen core.new.disk).moment ≡ (D.seen core.old.disk).moment + 2) }
+    ensures manifest { core.new.state.manifest ≡ core.old.state.manifest }
     ensures version { core.new.version ≡ core.old.version }
     ensures retired { core.new.retired ≡ core.old.retired }
     ensures flights { core.new.flights ≡ core.old.flights }

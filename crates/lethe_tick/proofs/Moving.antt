@@ -33,6 +33,7 @@ use Rattle.lethe_moves.specs.Due.{HasNothingDue}
 use Rattle.lethe_pins.specs.Held.{AreHeld, Held, is_named}
 use Rattle.lethe_pins.specs.declared.pin.Pin.{Pin}
 use Rattle.lethe_state.proofs.TickStep.{tick_remembered}
+use Rattle.lethe_state.specs.Clock.{clock_at, clock_of}
 use Rattle.lethe_state.specs.Remembered.{IsCurrent, Remembers}
 use Rattle.lethe_state.specs.Records.{halted}
 use Rattle.lethe_state.specs.Room.{IsStepFrom}
@@ -76,7 +77,7 @@ small_moved manifest state config is =
 -- The step
 
 module _ (Tells : Type 0) (old : View) (before to : ℕ) (may : MayStep Tells old before) (headers : List NewHeader) (step : Step) (none : headers ≡ [])
-    (from : IsStepFrom (segments_for old.state.frozen) old.state headers step)
+    (from : IsStepFrom (segments_for old.state.frozen) (clock_at (clock_of old.state.manifest) to) old.state headers step)
     (ticks : (s : Stored) (levels : List (List Parts)) → Remembers s old.state levels → IsCurrent s old.state → (loose : List (Name × List ℕ)) → AreDrawn old.state.next (names_in loose) → AreUncited s loose
     → IsStep s loose (ticked s to old.state.next) loose [] step) where
   abbrev t : Stored → Stored

@@ -13,7 +13,8 @@ ghost use Rattle.lethe_moves.specs.Due.{HasNothingDue};
 ghost use Rattle.lethe_stored.specs.Left.{IsKeptOr};
 ghost use Rattle.lethe_stored.specs.Numbers.{GoesFrom};
 ghost use Rattle.lethe_stored.specs.Stored.{Stored, layout_of};
-ghost use Rattle.lethe_core.specs.Asked.{Makes, behind, counted, stopped_by, written_by};
+ghost use Rattle.lethe_state.specs.Clock.{clock_of};
+ghost use Rattle.lethe_core.specs.Asked.{Makes, behind, clock_behind, counted, stopped_by, written_by};
 ghost use Rattle.lethe_core.specs.Keeps.{MayStep};
 ghost use Rattle.lethe_core.specs.Pinned.{AreKept, AreNamed};
 ghost use Rattle.lethe_core.specs.Reasons.{HasReason};
@@ -50,6 +51,7 @@ pub(crate) fn move_clock<D: Disk>(
     ensures sound { IsSound D.tells (view_of core.new) }
     ensures count { core.new.state.count ≡ counted (Makes (Tick to)) (result_err result) core.old.state.count }
     ensures stopped { core.new.state.stopped ≡ stopped_by (result_err result) core.old.state.stopped }
+    ensures clock { clock_of core.new.state.manifest ≡ clock_behind (Makes (Tick to)) (result_err result) (clock_of core.old.state.manifest) }
     ensures undone { IfErr result (IsUndone D.tells (view_of core.old) (view_of core.new)) }
     ensures done { D.tells → (s : Stored) → Holds (view_of core.old) s → OnOk result (Holds (view_of core.new) (ticked s to core.old.state.next)) }
     ensures why { IfErr result (HasReason (max_place ≤ core.old.state.next) core.old.state before (D.faults core.new.disk)) }

@@ -11,7 +11,8 @@ ghost use Rattle.lethe_follows.specs.Ticked.{ticked};
 ghost use Rattle.lethe_stored.specs.Left.{IsKeptOr};
 ghost use Rattle.lethe_stored.specs.Numbers.{GoesFrom};
 ghost use Rattle.lethe_stored.specs.Stored.{Stored};
-ghost use Rattle.lethe_core.specs.Asked.{Makes, behind, counted, stopped_by, written_by};
+ghost use Rattle.lethe_state.specs.Clock.{clock_of};
+ghost use Rattle.lethe_core.specs.Asked.{Makes, behind, clock_behind, counted, stopped_by, written_by};
 ghost use Rattle.lethe_core.specs.Keeps.{Keeps, MayStep};
 ghost use Rattle.lethe_core.specs.Merges.{AreOutcomesBy, Outcome, due_choice, pages_of};
 ghost use Rattle.lethe_core.specs.Pinned.{AreKept, AreNamed, AreRetiredFrom};
@@ -57,6 +58,7 @@ pub fn tick<D: Disk>(
     ensures sound { IsSound D.tells (view_of core.new) }
     ensures count { core.new.state.count ≡ counted (Makes (Tick to)) (result_err result) core.old.state.count }
     ensures stopped { core.new.state.stopped ≡ stopped_by (result_err result) core.old.state.stopped }
+    ensures clock { clock_of core.new.state.manifest ≡ clock_behind (Makes (Tick to)) (result_err result) (clock_of core.old.state.manifest) }
     ensures stands { D.tells → (config : Fields) (h : History) → StandsNow config h (view_of core.old) → (caller : ℕ)
         → StandsNow config (behind h caller (Makes (Tick to)) (result_err result)) (view_of core.new) }
     ensures any_moment { D.tells → (config : Fields) (h : History) → StandsNow config h (view_of core.old) → (caller : ℕ)

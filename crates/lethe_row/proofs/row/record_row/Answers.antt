@@ -44,6 +44,7 @@ loop-change-init g c =
             c.in-Ok.ensures.like (ap parts_by_level c.hold.ensures.version) c.in-Ok.ensures.rests c.hold.ensures.any_moment c.in-Ok.ensures.calls c.hold.ensures.numbers c.hold.ensures.faults c.hold.ensures.pinned c.hold.ensures.pins,
       );
       runs = c.requires.runs;
+      manifest = c.hold.ensures.manifest;
       version = c.hold.ensures.version;
       retired = c.hold.ensures.retired;
       flights = c.hold.ensures.flights;
@@ -81,6 +82,7 @@ loop-change-preserved g c =
             (λ told. c.pass_on.ensures.calls told ok) c.pass_on.ensures.numbers c.pass_on.ensures.faults c.pass_on.ensures.pinned c.pass_on.ensures.pins,
       );
       runs = c.requires.runs;
+      manifest = c.pass_on.ensures.manifest ∙ c.loop-change.invariant.manifest;
       version = c.pass_on.ensures.version ∙ c.loop-change.invariant.version;
       retired = c.pass_on.ensures.retired ∙ c.loop-change.invariant.retired;
       flights = c.pass_on.ensures.flights ∙ c.loop-change.invariant.flights;

@@ -9,6 +9,7 @@ abbrev pub invariant-loop-change : goal.invariant-loop-change
 invariant-loop-change g l = record {
   held : (made : List Asked) × (length made ≡ l.done) × IsHeld g.D.Disk.tells (Unit {0}) (view_of l.fn.core) l.fn.asked.items made l.waiting l.asked.items (view_of l.core);
   runs : l.fn.core.state.stopped ≡ None;
+  manifest : l.core.state.manifest ≡ l.fn.core.state.manifest;
   version : l.core.version ≡ l.fn.core.version;
   retired : l.core.retired ≡ l.fn.core.retired;
   flights : l.core.flights ≡ l.fn.core.flights;

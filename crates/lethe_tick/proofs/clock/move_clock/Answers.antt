@@ -4,19 +4,20 @@ use Rattle.std.specs.Result.{result_err}
 use Rattle.lethe_base.specs.declared.call.Call.TheVariants.{Tick}
 use Rattle.lethe_base.specs.declared.refused.Refused.{Refused}
 use Rattle.lethe_cert.specs.declared.certificate.Certificate.{Certificate}
+use Rattle.lethe_state.specs.Clock.{clock_at, clock_of}
 use Rattle.lethe_state.specs.Room.{IsStepFrom}
 use Rattle.lethe_state.specs.Ticking.{moved}
 use Rattle.lethe_state.specs.Writable.{segments_for}
 use Rattle.lethe_state.specs.declared.state.State.{State}
 use Rattle.lethe_stored.specs.Left.{IsKeptOr}
 use Rattle.lethe_stored.specs.Numbers.{GoesFrom}
-use Rattle.lethe_core.specs.Asked.{Makes, behind, counted, stopped_by, written_by}
+use Rattle.lethe_core.specs.Asked.{Makes, behind, clock_behind, counted, stopped_by, written_by}
 use Rattle.lethe_core.specs.StandsNow.{StandsNow}
 use Rattle.lethe_core.specs.Steps.{IsUndone}
 use Rattle.lethe_core.specs.View.{view_of}
 use Rattle.lethe_core.proofs.Asked.{behind_none, counted_none, not_failed, stopped_none, written_none}
 use Rattle.lethe_core.proofs.Carried.{IsCarried}
-use Rattle.lethe_core.proofs.Hindered.{as_itself, hindered_count, hindered_next, hindered_sound, hindered_stopped, hindered_undone}
+use Rattle.lethe_core.proofs.Hindered.{as_itself, hindered_clock, hindered_count, hindered_next, hindered_sound, hindered_stopped, hindered_undone}
 use Rattle.lethe_core.proofs.Standing.{moments_or, stands_moments}
 use Rattle.lethe_tick.proofs.Moving.{hindered_moments, hindered_stands, tick_moments, tick_step, tick_unmoved, ticked_holds, ticked_kept, ticked_sound, ticked_stands}
 use Rattle.lethe_tick.proofs.clock.move_clock.Goals as goal
@@ -36,6 +37,13 @@ returns-in_err-step-clause-stopped g c =
     let refusal : c.from_residual.result ≡ Err why = search rules in
     let stopped = c.args.core.now.state.stopped in
     sym (ap (λ (r : Result (Option Certificate) Refused). stopped_by (result_err r) stopped) refusal ∙ stopped_none why stopped (not_failed why c.in_err-step.ensures.refused))
+
+pub returns-in_err-step-clause-clock : goal.returns-in_err-step-clause-clock
+returns-in_err-step-clause-clock g c =
+    let why = c.in_err-step.field-0.0 in
+    let refusal : c.from_residual.result ≡ Err why = search rules in
+    let clock = clock_of c.args.core.now.state.manifest in
+    sym (ap (λ (r : Result (Option Certificate) Refused). clock_behind (Makes (Tick c.args.to)) (result_err r) clock) refusal)
 
 pub returns-in_err-step-clause-undone : goal.returns-in_err-step-clause-undone
 returns-in_err-step-clause-undone g c =
@@ -73,7 +81,7 @@ pub carry_out_spelled-requires-clause-step : goal.carry_out_spelled-requires-cla
 carry_out_spelled-requires-clause-step g c κs within =
     let old = view_of c.args.core.now in
     let step = c.in_ok-step.step in
-    let from = subst (λ headers. IsStepFrom (segments_for old.state.frozen) old.state headers step) (sym c.new.ensures.items) c.in_ok-step.ensures.step in
+    let from = subst (λ headers. IsStepFrom (segments_for old.state.frozen) (clock_at (clock_of old.state.manifest) c.args.to) old.state headers step) (sym c.new.ensures.items) c.in_ok-step.ensures.step in
     tick_step g.D.Disk.tells old c.args.before c.args.to c.requires.may c.new.result.items step c.new.ensures.items from c.in_ok-step.ensures.ticks
 
 -- It was hindered
@@ -100,6 +108,15 @@ returns-in_err-carry_out_spelled-clause-stopped g c =
     subst (λ (r : Result (Option Certificate) Refused). new.state.stopped ≡ stopped_by (result_err r) old.state.stopped) (sym refusal)
     (hindered_stopped g.D.Disk.tells old new c.args.before why c.in_err-carry_out_spelled.ensures.refused)
 
+pub returns-in_err-carry_out_spelled-clause-clock : goal.returns-in_err-carry_out_spelled-clause-clock
+returns-in_err-carry_out_spelled-clause-clock g c =
+    let old = view_of c.args.core.now in
+    let new = view_of c.carry_out_spelled.new.self in
+    let why = c.in_err-carry_out_spelled.field-0.0 in
+    let refusal : c.from_residual-in_err-carry_out_spelled.result ≡ Err why = search rules in
+    subst (λ (r : Result (Option Certificate) Refused). clock_of new.state.manifest ≡ clock_behind (Makes (Tick c.args.to)) (result_err r) (clock_of old.state.manifest)) (sym refusal)
+    (hindered_clock g.D.Disk.tells old new c.args.before why c.in_err-carry_out_spelled.ensures.refused)
+
 pub returns-in_err-carry_out_spelled-clause-undone : goal.returns-in_err-carry_out_spelled-clause-undone
 returns-in_err-carry_out_spelled-clause-undone g c =
     let old = view_of c.args.core.now in
@@ -116,7 +133,7 @@ returns-in_err-carry_out_spelled-clause-any_moment g c = λ told config h stands
     let step = c.in_ok-step.step in
     let why = c.in_err-carry_out_spelled.field-0.0 in
     let refusal : c.from_residual-in_err-carry_out_spelled.result ≡ Err why = search rules in
-    let from = subst (λ headers. IsStepFrom (segments_for old.state.frozen) old.state headers step) (sym c.new.ensures.items) c.in_ok-step.ensures.step in
+    let from = subst (λ headers. IsStepFrom (segments_for old.state.frozen) (clock_at (clock_of old.state.manifest) c.args.to) old.state headers step) (sym c.new.ensures.items) c.in_ok-step.ensures.step in
     let ticks = c.in_ok-step.ensures.ticks in
     let tells = g.D.Disk.tells in
     let goes = tick_moments tells old c.args.before c.args.to c.requires.may headers step c.new.ensures.items from ticks config h stands forward due caller new c.carry_out_spelled.ensures.moments told in
@@ -133,7 +150,7 @@ returns-in_err-carry_out_spelled-clause-stands g c = λ told config h stands for
     let step = c.in_ok-step.step in
     let why = c.in_err-carry_out_spelled.field-0.0 in
     let refusal : c.from_residual-in_err-carry_out_spelled.result ≡ Err why = search rules in
-    let from = subst (λ headers. IsStepFrom (segments_for old.state.frozen) old.state headers step) (sym c.new.ensures.items) c.in_ok-step.ensures.step in
+    let from = subst (λ headers. IsStepFrom (segments_for old.state.frozen) (clock_at (clock_of old.state.manifest) c.args.to) old.state headers step) (sym c.new.ensures.items) c.in_ok-step.ensures.step in
     let ticks = c.in_ok-step.ensures.ticks in
     let tells = g.D.Disk.tells in
     let laws = g.met.D.Disk g.world.𝓛 g.world.𝓜 g.world.𝓡 ((λ s x. x), (λ x. x), (λ x. x), λ x. x) in
@@ -159,7 +176,7 @@ pub returns-in_err-carry_out_spelled-clause-pinned : goal.returns-in_err-carry_o
 returns-in_err-carry_out_spelled-clause-pinned g c =
     let old = view_of c.args.core.now in
     let new = view_of c.carry_out_spelled.new.self in
-    let from = subst (λ headers. IsStepFrom (segments_for old.state.frozen) old.state headers c.in_ok-step.step) (sym c.new.ensures.items) c.in_ok-step.ensures.step in
+    let from = subst (λ headers. IsStepFrom (segments_for old.state.frozen) (clock_at (clock_of old.state.manifest) c.args.to) old.state headers c.in_ok-step.step) (sym c.new.ensures.items) c.in_ok-step.ensures.step in
     ticked_kept g.D.Disk.tells old c.args.before c.args.to c.requires.may c.new.result.items c.in_ok-step.step c.new.ensures.items from c.in_ok-step.ensures.ticks new c.carry_out_spelled.ensures.stays
 
 -- It was carried out
@@ -186,7 +203,7 @@ returns-clause-done g c = λ told s holds.
       calls = c.in_ok-carry_out_spelled.ensures.calls;
       faults = c.carry_out_spelled.ensures.faults;
     } in
-    let from = subst (λ headers. IsStepFrom (segments_for old.state.frozen) old.state headers step) (sym c.new.ensures.items) c.in_ok-step.ensures.step in
+    let from = subst (λ headers. IsStepFrom (segments_for old.state.frozen) (clock_at (clock_of old.state.manifest) c.args.to) old.state headers step) (sym c.new.ensures.items) c.in_ok-step.ensures.step in
     ticked_holds g.D.Disk.tells old c.args.before c.args.to c.requires.may headers step c.new.ensures.items from c.in_ok-step.ensures.ticks new carried new_is c.requires.free
     (λ told. laws.itself told c.args.core.now.disk) told s holds
 
@@ -194,7 +211,7 @@ pub returns-clause-pinned : goal.returns-clause-pinned
 returns-clause-pinned g c =
     let old = view_of c.args.core.now in
     let new = view_of (record c.carry_out_spelled.new.self { state = c.tick.new.self }) in
-    let from = subst (λ headers. IsStepFrom (segments_for old.state.frozen) old.state headers c.in_ok-step.step) (sym c.new.ensures.items) c.in_ok-step.ensures.step in
+    let from = subst (λ headers. IsStepFrom (segments_for old.state.frozen) (clock_at (clock_of old.state.manifest) c.args.to) old.state headers c.in_ok-step.step) (sym c.new.ensures.items) c.in_ok-step.ensures.step in
     ticked_kept g.D.Disk.tells old c.args.before c.args.to c.requires.may c.new.result.items c.in_ok-step.step c.new.ensures.items from c.in_ok-step.ensures.ticks new c.carry_out_spelled.ensures.stays
 
 pub returns-clause-sound : goal.returns-clause-sound
@@ -203,9 +220,16 @@ returns-clause-sound g c =
     let new = view_of (record c.carry_out_spelled.new.self { state = c.tick.new.self }) in
     let step = c.in_ok-step.step in
     let new_is : new.state ≡ moved step.manifest old.state = c.tick.ensures.is ∙ ap (moved step.manifest) c.in_ok-carry_out_spelled.ensures.state in
-    let from = subst (λ headers. IsStepFrom (segments_for old.state.frozen) old.state headers step) (sym c.new.ensures.items) c.in_ok-step.ensures.step in
+    let from = subst (λ headers. IsStepFrom (segments_for old.state.frozen) (clock_at (clock_of old.state.manifest) c.args.to) old.state headers step) (sym c.new.ensures.items) c.in_ok-step.ensures.step in
     ticked_sound g.D.Disk.tells old c.args.before c.args.to c.requires.may c.new.result.items step c.new.ensures.items from c.in_ok-step.ensures.ticks new new_is (λ i. (c.carry_out_spelled.ensures.retired i).items)
     c.carry_out_spelled.ensures.flights c.carry_out_spelled.ensures.pins (returns-clause-done g c) c.carry_out_spelled.ensures.levels c.tick.ensures.writable
+
+pub returns-clause-clock : goal.returns-clause-clock
+returns-clause-clock g c =
+    let old = view_of c.args.core.now in
+    let step = c.in_ok-step.step in
+    let new_is : c.tick.new.self ≡ moved step.manifest old.state = c.tick.ensures.is ∙ ap (moved step.manifest) c.in_ok-carry_out_spelled.ensures.state in
+    ap (λ (state : State). clock_of state.manifest) new_is ∙ c.in_ok-step.ensures.step.clock_is
 
 pub returns-clause-stands : goal.returns-clause-stands
 returns-clause-stands g c = λ told config h stands forward due caller.
@@ -213,7 +237,7 @@ returns-clause-stands g c = λ told config h stands forward due caller.
     let new = view_of (record c.carry_out_spelled.new.self { state = c.tick.new.self }) in
     let step = c.in_ok-step.step in
     let new_is : new.state ≡ moved step.manifest old.state = c.tick.ensures.is ∙ ap (moved step.manifest) c.in_ok-carry_out_spelled.ensures.state in
-    let from = subst (λ headers. IsStepFrom (segments_for old.state.frozen) old.state headers step) (sym c.new.ensures.items) c.in_ok-step.ensures.step in
+    let from = subst (λ headers. IsStepFrom (segments_for old.state.frozen) (clock_at (clock_of old.state.manifest) c.args.to) old.state headers step) (sym c.new.ensures.items) c.in_ok-step.ensures.step in
     ticked_stands g.D.Disk.tells old c.args.before c.args.to c.requires.may c.new.result.items step c.new.ensures.items from c.in_ok-step.ensures.ticks new new_is (λ i. (c.carry_out_spelled.ensures.retired i).items)
     c.carry_out_spelled.ensures.flights c.carry_out_spelled.ensures.pins (returns-clause-done g c) c.requires.passes c.requires.named
     (returns-clause-pinned g c) told config h stands forward due caller
@@ -224,7 +248,7 @@ returns-clause-any_moment g c = λ told config h stands forward due caller.
     let new = view_of (record c.carry_out_spelled.new.self { state = c.tick.new.self }) in
     let headers = c.new.result.items in
     let step = c.in_ok-step.step in
-    let from = subst (λ headers. IsStepFrom (segments_for old.state.frozen) old.state headers step) (sym c.new.ensures.items) c.in_ok-step.ensures.step in
+    let from = subst (λ headers. IsStepFrom (segments_for old.state.frozen) (clock_at (clock_of old.state.manifest) c.args.to) old.state headers step) (sym c.new.ensures.items) c.in_ok-step.ensures.step in
     tick_moments g.D.Disk.tells old c.args.before c.args.to c.requires.may headers step c.new.ensures.items from c.in_ok-step.ensures.ticks config h stands forward due caller new c.carry_out_spelled.ensures.moments told
 
 pub returns-clause-drawn : goal.returns-clause-drawn

@@ -14,7 +14,8 @@ use Rattle.lethe_stored.specs.Stored.{Stored}
 use Rattle.lethe_stored.proofs.Numbers.{goes_from_then}
 use Rattle.lethe_pins.specs.Held.{Held}
 use Rattle.lethe_pins.specs.declared.pin.Pin.{Pin}
-use Rattle.lethe_core.specs.Asked.{Makes, behind, counted, stopped_by, written_by}
+use Rattle.lethe_state.specs.Clock.{clock_of}
+use Rattle.lethe_core.specs.Asked.{Makes, behind, clock_behind, counted, stopped_by, written_by}
 use Rattle.lethe_core.specs.Merges.{AreOutcomesBy, Outcome, due_choice, pages_of}
 use Rattle.lethe_core.specs.Pinned.{AreKept, AreNamed, AreRetiredFrom}
 use Rattle.lethe_core.specs.Reasons.{HasReason, IsUnreadable}
@@ -56,6 +57,14 @@ returns-in_err-ripen_store-clause-stopped g c =
     let refusal : c.from_residual.result ≡ Err why = search rules in
     subst (λ (r : Result (Option Certificate) Refused). new.state.stopped ≡ stopped_by (result_err r) old.state.stopped) (sym refusal) c.in_err-ripen_store.ensures.keeps.stopped
 
+pub returns-in_err-ripen_store-clause-clock : goal.returns-in_err-ripen_store-clause-clock
+returns-in_err-ripen_store-clause-clock g c =
+    let old = view_of c.args.core.now in
+    let new = view_of c.ripen_store.new.core in
+    let why = c.in_err-ripen_store.field-0.0 in
+    let refusal : c.from_residual.result ≡ Err why = search rules in
+    subst (λ (r : Result (Option Certificate) Refused). clock_of new.state.manifest ≡ clock_behind (Makes (Tick c.args.to)) (result_err r) (clock_of old.state.manifest)) (sym refusal) c.in_err-ripen_store.ensures.keeps.clock
+
 pub returns-in_err-ripen_store-clause-stands : goal.returns-in_err-ripen_store-clause-stands
 returns-in_err-ripen_store-clause-stands g c = λ told config h stands caller.
     let new = view_of c.ripen_store.new.core in
@@ -95,6 +104,9 @@ returns-clause-count g c = c.move_clock.ensures.count ∙ ap (counted (Makes (Ti
 
 pub returns-clause-stopped : goal.returns-clause-stopped
 returns-clause-stopped g c = c.move_clock.ensures.stopped ∙ ap (stopped_by (result_err c.move_clock.result)) c.in_ok-ripen_store.ensures.keeps.stopped
+
+pub returns-clause-clock : goal.returns-clause-clock
+returns-clause-clock g c = c.move_clock.ensures.clock ∙ ap (clock_behind (Makes (Tick c.args.to)) (result_err c.move_clock.result)) c.in_ok-ripen_store.ensures.keeps.clock
 
 pub returns-clause-stands : goal.returns-clause-stands
 returns-clause-stands g c = λ told config h stands caller.

@@ -3,6 +3,7 @@ use Rattle.std.specs.Prelude.{IfErr}
 use Rattle.std.specs.Result.{result_err}
 use Rattle.lethe_base.specs.declared.refused.Refused.{Refused}
 use Rattle.lethe_advance.specs.Calls.{most_calls}
+use Rattle.lethe_state.specs.Clock.{clock_of}
 use Rattle.lethe_state.specs.Room.{IsFrozen, IsFrozenWith, IsStepFrom}
 use Rattle.lethe_state.specs.declared.state.State.{State}
 use Rattle.lethe_core.specs.Keeps.{Keeps}
@@ -45,7 +46,7 @@ returns-in_err-carry_out-clause-keeps g c =
     let why = c.in_err-carry_out.field-0.0 in
     let laws = g.met.D.Disk g.world.𝓛 g.world.𝓜 g.world.𝓡 ((λ s x. x), (λ x. x), (λ x. x), λ x. x) in
     let refusal : c.from_residual-in_err-carry_out.result ≡ Err why = search rules in
-    let from = subst (λ headers. IsStepFrom 2 old.state headers step) (sym c.new.ensures.items) c.in_ok-step.ensures.step in
+    let from = subst (λ headers. IsStepFrom 2 (clock_of old.state.manifest) old.state headers step) (sym c.new.ensures.items) c.in_ok-step.ensures.step in
     let goes = next_moments IsFrozen g.D.Disk.tells old headers step c.args.before c.requires.may (frozen_next g.D.Disk.tells old c.requires.may.sound.drawn headers step c.requires.may.sound.writable c.new.ensures.items c.in_ok-step.ensures.freezes)
     new (λ h s t holds for is. frozen_for h s t old.state old.levels holds.remembers (not_frozen s old.state old.levels holds.remembers c.requires.unfrozen) for is) 2 from c.carry_out.ensures.moments in
     subst (λ (r : Result (Unit {0}) Refused). Keeps g.D.Disk.tells old new (result_err r)) (sym refusal)
@@ -81,7 +82,7 @@ returns-clause-keeps g c =
       calls = c.in_ok-carry_out.ensures.calls;
       faults = c.carry_out.ensures.faults;
     } in
-    let from = subst (λ headers. IsStepFrom 2 old.state headers step) (sym c.new.ensures.items) c.in_ok-step.ensures.step in
+    let from = subst (λ headers. IsStepFrom 2 (clock_of old.state.manifest) old.state headers step) (sym c.new.ensures.items) c.in_ok-step.ensures.step in
     next_keeps IsFrozen g.D.Disk.tells old headers step c.args.before c.requires.may (frozen_next g.D.Disk.tells old c.requires.may.sound.drawn headers step c.requires.may.sound.writable c.new.ensures.items c.in_ok-step.ensures.freezes)
     new (λ h s t holds for is. frozen_for h s t old.state old.levels holds.remembers (not_frozen s old.state old.levels holds.remembers c.requires.unfrozen) for is) carried
     (λ told s t holds made is. frozen_holds g.D.Disk.tells s t old new headers step carried told holds is made c.requires.unfrozen with)

@@ -45,6 +45,9 @@ returns-in-Ok-opened-clause-sound g c =
 pub returns-in-Ok-opened-clause-runs : goal.returns-in-Ok-opened-clause-runs
 returns-in-Ok-opened-clause-runs g c = c.in-Ok-opened.ensures.fresh.stopped
 
+pub returns-in-Ok-opened-clause-config_is : goal.returns-in-Ok-opened-clause-config_is
+returns-in-Ok-opened-clause-config_is g c = ap (λ (m : Manifest). m.config) c.in-Ok-opened.ensures.fresh.manifest_is ∙ c.in-Ok.ensures.spelled.config_is
+
 pub returns-in-Ok-opened-clause-face : goal.returns-in-Ok-opened-clause-face
 returns-in-Ok-opened-clause-face g c = λ i. record { begun = c.none.ensures.jobs i; rounds = c.none.ensures.rounds i; flights = c.new-in-Ok-opened.ensures i; made = (c.new-in-Ok-opened-2.ensures i).made; held = map limited_of (c.new-in-Ok-opened-2.ensures i).pins }
 

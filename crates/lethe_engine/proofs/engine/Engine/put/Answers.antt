@@ -7,6 +7,7 @@ use Rattle.lethe_base.specs.declared.refused.Refused.{Refused}
 use Rattle.lethe_disk.proofs.Quieting.{on_ok, on_ok_both}
 use Rattle.lethe_stored.specs.Stored.{appended}
 use Rattle.lethe_state.specs.Records.{HasEntered, put_record}
+use Rattle.lethe_state.specs.Clock.{clock_of}
 use Rattle.lethe_core.specs.Asked.{Makes}
 use Rattle.lethe_core.specs.Changes.{with_record}
 use Rattle.lethe_core.specs.Merges.{AreRetiredBehind}
@@ -79,7 +80,7 @@ returns-clause-answers g c =
     (jobs_same core c.make_room.new.self c.make_room.ensures.begun c.make_room.ensures.flights c.in_ok-make_room.ensures.keeps.pins)
     (recorded_answers g.D.Disk.tells Asks (put_works c.args.key c.args.dkey c.args.value) old fits.0 mid new why c.in_ok-make_room.ensures.keeps
     (λ told s holds. let done = c.in_ok-make_room.ensures.done told s holds in (done.0, done.1, done.2, done.3)) (λ s t is. is) (λ room. ap view_of (c.in_ok-make_room.ensures.room room).1)
-    (jobs_same c.make_room.new.self c.record.new.self c.record.ensures.begun c.record.ensures.flights c.record.ensures.pins) c.record.ensures.sound (c.record.ensures.count Asks) c.record.ensures.stopped reason
+    (jobs_same c.make_room.new.self c.record.new.self c.record.ensures.begun c.record.ensures.flights c.record.ensures.pins) c.record.ensures.sound (c.record.ensures.count Asks) c.record.ensures.stopped (ap clock_of c.record.ensures.manifest) reason
     (if_refused c.record.result (IsUndone g.D.Disk.tells mid new) c.record.ensures.undone) c.record.ensures.numbers c.record.ensures.drawn c.record.ensures.faults
     (ap (λ names. names.items) c.record.ensures.retired) c.record.ensures.pins c.record.ensures.pinned
     (λ told config h caller still. c.record.ensures.stands told config h caller Asks refl still

@@ -80,7 +80,7 @@ returns-in_err-certificate-clause-answers g c =
     let told = tick_told tells g.D.Disk.ports_fail to old new c.faults-before.result first last may.0.runs c.faults-before.ensures why is.why in
     subst (λ (r : Result Ticked Refused). Answers tells (Makes (call.Tick to)) (result_err r) (ticked_face old to) old new) (sym refusal)
     (subst (λ face. Answers tells (Makes (call.Tick to)) (Some why) face old new) face
-    (made_answers tells (call.Tick to) (tick_works to) old may.0.runs new (Some why) all.sound is.count is.stopped
+    (made_answers tells (call.Tick to) (tick_works to) old may.0.runs new (Some why) all.sound is.count is.stopped is.clock
     (λ told config h caller before. is.stands told config h (stands_in_round old (old.rounds + 1) config h before) caller)
     (λ told config h caller before. is.any_moment told config h (stands_in_round old (old.rounds + 1) config h before) caller)
     all.numbers all.drawn all.faults told
@@ -112,7 +112,7 @@ returns-clause-answers g c =
     let all = c.tick.ensures in
     let face = ticked_now old to new (passes_all old to may.0 may.1) (λ i. (all.begun i).jobs) (λ i. (all.begun i).rounds) all.free all.pins in
     subst (λ face. Answers tells (Makes (call.Tick to)) None face old new) face
-    (made_answers tells (call.Tick to) (tick_works to) old may.0.runs new None all.sound is.count is.stopped
+    (made_answers tells (call.Tick to) (tick_works to) old may.0.runs new None all.sound is.count is.stopped is.clock
     (λ told config h caller before. is.stands told config h (stands_in_round old (old.rounds + 1) config h before) caller)
     (λ told config h caller before. is.any_moment told config h (stands_in_round old (old.rounds + 1) config h before) caller)
     all.numbers all.drawn all.faults tt tt all.retired all.pinned)
