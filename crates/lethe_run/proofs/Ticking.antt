@@ -1,5 +1,5 @@
 -- A tick is answered.
-use Rattle.std.proofs.Common.{◌≡◌, ◌⊎◌, inl, inr, ◌≤◌, ◌<◌, ℕ, suc, ◌+◌, Bool, true, false, cond, List, [], ◌∷◌, length, take, Option, Some, None, Result, Ok, Err, refl, sym, ap, ◌∙◌, subst, arith}
+use Rattle.std.proofs.Common.{◌≡◌, ◌⊎◌, inl, inr, ◌≤◌, ◌<◌, ℕ, suc, ◌+◌, List, [], ◌∷◌, length, take, Option, Some, None, Result, Ok, Err, refl, sym, ap, ◌∙◌, subst, arith}
 use Rattle.std.specs.Prelude.{All, IfErr, IfOk, IfSome, IsErrOf, OnOk, nat_le, option_map}
 use Rattle.std.specs.Result.{result_err}
 use Rattle.std.proofs.lemmas.Bool.{cases_lt}
@@ -29,7 +29,6 @@ use Rattle.lethe_engine.specs.Certificates.{HasCommitted, IsTrueCertificate}
 use Rattle.lethe_engine.specs.Ticks.{HasReasonOfTick, IsBarred, IsBehind, IsCertificateAt, IsShortToTick, IsTickable, ticked_face}
 use Rattle.lethe_engine.specs.declared.ticking.Ticked.{Ticked}
 use Rattle.lethe_engine.proofs.Clean.{now_clean}
-use Rattle.lethe_manifest.specs.declared.manifest.LastCert.{LastCert}
 use Rattle.lethe_manifest.specs.declared.manifest.Manifest.{Manifest}
 use Rattle.lethe_pins.specs.Held.{AreHeld, first_limit_of}
 use Rattle.lethe_script.specs.declared.order.Act.{Act}
@@ -51,6 +50,7 @@ use Rattle.lethe_run.proofs.Anywhere as anywhere
 use Rattle.lethe_run.proofs.Lasting.{here, seen_now}
 use Rattle.lethe_run.proofs.Outcomes.{Outcome}
 use Rattle.lethe_run.proofs.Pins.{all_above, barred_by, passed_by}
+use Rattle.lethe_run.proofs.Prepared.{certificate_by, prepared, where_so}
 use Rattle.lethe_run.proofs.Shorts.{drawn_for_tick}
 use Rattle.lethe_run.proofs.Steps.{Replied, Says, advances, hindered, longer, next_place, not_made, unreadable}
 
@@ -121,23 +121,6 @@ of_tick Told Ports to old new before now (Err why) (inr (inl barred)) = subst Is
 of_tick Told Ports to old new before now (Err why) (inr (inr (inl reason))) = of_hindered _ old new.faults why reason
 of_tick Told Ports to old new before now (Err why) (inr (inr (inr reason))) = of_unreadable Told Ports before now why reason.1
 
--- What a manifest has prepared, with a digest
-
-abbrev pub certificate_by : List ℕ → Manifest → ℕ → Option Certificate
-certificate_by digest manifest to = cond (nat_le manifest.config.threshold to) (option_map (λ last. record { number = last.number; clock = last.clock; before = last.before; digest = digest }) manifest.certificate) None
-
-prepared : (digest : List ℕ) (last : Option LastCert) (certificate : Certificate) → option_map (λ last. record { number = last.number; clock = last.clock; before = last.before; digest = digest }) last ≡ Some certificate
-    → last ≡ Some (record { number = certificate.number; clock = certificate.clock; before = certificate.before })
-prepared digest None certificate is = absurd (let clash : None ≡ Some certificate = is in cc)
-prepared digest (Some last) certificate is =
-    let told : Certificate = record { number = last.number; clock = last.clock; before = last.before; digest = digest } in
-    let same : told ≡ certificate = cc in
-    ap (λ (certificate : Certificate). Some (record { number = certificate.number; clock = certificate.clock; before = certificate.before })) same
-
-where_so : {X : Type 0} (b : Bool) (o : Option X) (x : X) → cond b o None ≡ Some x → o ≡ Some x
-where_so true o x is = is
-where_so false o x is = absurd (let clash : None ≡ Some x = is in cc)
-
 module _ (to : ℕ) (old new : View) where
   abbrev act : Act
   act = acts.Tick to
@@ -198,9 +181,9 @@ module _ (to : ℕ) (old new : View) where
         (((to, refl, barred.reached), may.runs, λ i. standing_of (same may barred.pin barred.limit barred.first barred.reached i) (kept i)), (by.0, by.1, by.2, by.3, by.4, kept), told.drawn)
 
     -- numbers run out for a step; rounds don't
-    lacks : old.rounds < max_place → frozen_len new.state.frozen ≤ 16384 → (max_place ≤ old.rounds) ⊎ IsShortToTick Told to new → IsDrawn (standing_of new behind)
-    lacks rounds small (inl full) = absurd (omega (arith, rounds, full))
-    lacks rounds small (inr few) = drawn_for_tick Told to new behind small few
+    nearly : old.rounds < max_place → frozen_len new.state.frozen ≤ 16384 → (max_place ≤ old.rounds) ⊎ IsShortToTick Told to new → IsDrawn (standing_of new behind)
+    nearly rounds small (inl full) = absurd (omega (arith, rounds, full))
+    nearly rounds small (inr few) = drawn_for_tick Told to new behind small few
 
     pub tick_tells : HoldsPins old slots → AreHeld old.pins → (before now : ℕ) (result : Result Ticked Refused) → OnOk result (All (λ pin. to < pin.limit) old.pins.pins) → OnOk result (old.state.manifest.clock ≤ to)
         → IfOk result (λ told. IsCertificateAt new.state.manifest.config.threshold to told.certificate) → (digest : List ℕ) → IfOk result (λ told. told.certificate ≡ certificate_by digest new.state.manifest to)
@@ -226,7 +209,7 @@ module _ (to : ℕ) (old new : View) where
     tick_tells holds pins before now (Err why) above forward due digest certificate says is rounds small ahead_same barred_same (inr (inl barred)) stop = barred_tells holds pins barred_same why barred says
     tick_tells holds pins before now (Err why) above forward due digest certificate says is rounds small ahead_same barred_same (inr (inr (inl reason))) stop =
         subst (λ r. Tells Ports act r old slots new behind) (hindered_not_behind point why _ old new.faults reason)
-        (anywhere.hindered Told Ports act call refl face old new slots behind kept ((max_place ≤ old.rounds) ⊎ IsShortToTick Told to new) (lacks rounds small) why reason says)
+        (anywhere.hindered Told Ports act call refl face old new slots behind kept ((max_place ≤ old.rounds) ⊎ IsShortToTick Told to new) (nearly rounds small) why reason says)
     tick_tells holds pins before now (Err why) above forward due digest certificate says is rounds small ahead_same barred_same (inr (inr (inr reason))) stop =
         subst (λ r. Tells Ports act r old slots new behind) (unreadable_not_behind point why Told Ports before now reason.1)
         (anywhere.unreadable Told Ports act call refl face old new slots behind kept before now why reason.0 reason.1 says)

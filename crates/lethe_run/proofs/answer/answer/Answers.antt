@@ -12,6 +12,7 @@ use Rattle.lethe_read.specs.Refusals.{IsReadRefusal}
 use Rattle.lethe_engine.specs.Reads.{listed}
 use Rattle.lethe_script.specs.Slots.{held_behind}
 use Rattle.lethe_script.specs.declared.order.Act.TheVariants as acts
+use Rattle.lethe_run.specs.declared.reply.Reply.{Reply}
 use Rattle.lethe_run.specs.declared.reply.Reply.TheVariants as reply
 use Rattle.lethe_run.specs.Anywhere.{IsTold, standing_of}
 use Rattle.lethe_run.specs.Carried.{Whole}
@@ -355,7 +356,7 @@ returns-in-PinGet-clause-told g c =
     let slots = slots_of view held in
     let s = standing_of view slots in
     let told = c.pin_get.ensures.told view.faults view.faults s c.in-PinGet.slot (pin_at held view c.in-PinGet.slot (Some c.snapshot.result.now) c.snapshot.ensures.held) in
-    let Is = λ reply. IsTold g.D.Disk.ports_fail view.faults view.faults (acts.PinGet c.in-PinGet.slot c.in-PinGet.key) s reply s in
+    let Is = λ (reply : Reply). IsTold g.D.Disk.ports_fail view.faults view.faults (acts.PinGet c.in-PinGet.slot c.in-PinGet.key) s reply s in
     rw c.in-PinGet.is (match_later Is c.pin_get.result s s (or_same Is c.pin_get.result s told))
 
 pub returns-in-PinGet-clause-served : goal.returns-in-PinGet-clause-served
@@ -386,7 +387,7 @@ returns-in-PinScan-clause-told g c =
     let slots = slots_of view held in
     let s = standing_of view slots in
     let told = c.pin_scan.ensures.told view.faults view.faults s c.in-PinScan.slot (pin_at held view c.in-PinScan.slot (Some c.snapshot-in-PinScan.result.now) c.snapshot-in-PinScan.ensures.held) in
-    let Is = λ reply. IsTold g.D.Disk.ports_fail view.faults view.faults (acts.PinScan c.in-PinScan.slot c.in-PinScan.lo c.in-PinScan.hi) s reply s in
+    let Is = λ (reply : Reply). IsTold g.D.Disk.ports_fail view.faults view.faults (acts.PinScan c.in-PinScan.slot c.in-PinScan.lo c.in-PinScan.hi) s reply s in
     rw c.in-PinScan.is (match_later Is c.pin_scan.result s s (or_same Is c.pin_scan.result s told))
 
 pub returns-in-PinScan-clause-served : goal.returns-in-PinScan-clause-served
