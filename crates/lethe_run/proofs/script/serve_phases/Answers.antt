@@ -1,4 +1,4 @@
-use Rattle.std.proofs.Common.{rules, ◌≡◌, ◌++◌, length, ◌∷◌, [], Some, refl, sym, ap, ◌∙◌, subst, arith, append-nil}
+use Rattle.std.proofs.Common.{rules, ◌≡◌, ◌≤◌, ◌+◌, ◌++◌, length, ◌∷◌, [], Some, refl, sym, ap, ◌∙◌, subst, arith, append-nil}
 use Rattle.std.specs.Prelude.{IsSome}
 use Rattle.std.specs.List.{flat_map, sum_by}
 use Rattle.std.proofs.lemmas.List.{length-append, map-id}
@@ -90,7 +90,7 @@ loop-orders-preserved g c =
       lines = (
         so_far.0 ++ more ∷ [],
         whole_text (g.K.Sink.taken c.args.sink.now) (g.K.Sink.taken c.loop-orders.sink) (g.K.Sink.taken c.print_phase.new.sink) so_far.0 more so_far.1 c.in_default.ensures.ok.1,
-        subst (λ all. IsFirstOr all c.first_refusal.result) (sym (all_more so_far.0 more)) (c.first_refusal.ensures (all_of so_far.0) so_far.3 so_far.2),
+        subst (λ all. IsFirstOr all c.first_refusal-refused.result) (sym (all_more so_far.0 more)) (subst (λ l. IsFirstOr (all_of so_far.0 ++ l) c.first_refusal-refused.result) c.deref.ensures.value (c.first_refusal-refused.ensures (all_of so_far.0) so_far.3 so_far.2)),
         (let size = so_far.3 in let step = ap length (all_more so_far.0 more) ∙ length-append (all_of so_far.0) more in omega (arith, size, step)),
         next_so_far g.D.Disk.tells g.D.Disk.ports_fail old new (λ told. laws.itself told c.serve_phase-served.new.engine.core.disk) behind (λ h. AreShown h held) mid between (λ h. AreShown h was) c.loop-orders.invariant.faults c.serve_phase-served.ensures.faults (c.loop-orders.yielded ++ c.in-Some.orders ∷ []) c.loop-orders.yielded [] c.in-Some.orders refl so_far.0 more
             whole so_far.4 phase c.in_default.ensures.ok.0,
@@ -181,13 +181,28 @@ serve_phase-served-requires-clause-slotted g c κs within =
     (part_finds (flat_map (λ orders. orders) c.loop-orders.yielded) none_held was c.loop-orders.invariant.slotted orders (flat_map (λ orders. orders) rest)
     (subst (λ l. IsSome (held_through l none_held)) (flat_parts c.args.phases c.loop-orders.yielded rest orders are) c.requires.slotted))
 
-pub first_refusal-requires : goal.first_refusal-requires
-first_refusal-requires g c =
+pub first_refusal-refused-requires : goal.first_refusal-refused-requires
+first_refusal-refused-requires g c =
     let mid = view_of c.loop-orders.engine.core in
     let new = view_of c.serve_phase-served.new.engine.core in
     let served = c.serve_phase-served.ensures.served in
     let rest = c.next.new.self.rest.items in
     let are : c.args.phases ≡ c.loop-orders.yielded ++ c.in-Some.orders ∷ rest =
     taken_next c.args.phases c.into_iter-orders-iterator.result c.loop-orders.yielded c.loop-orders.orders-iterator c.in-Some.orders rest (c.into_iter-orders-iterator.ensures.into_iter_gives.0 ∙ c.into_vec-orders-items.ensures) c.loop-orders.yielded_by c.in-Some.ensures.steps.0 in
-    lines_fit g.D.Disk.ports_fail mid.faults new.faults c.args.phases c.loop-orders.yielded rest c.in-Some.orders served.0 served.1 (standing_of mid (slots_of mid c.loop-orders.slots.held.items)) c.serve_phase-served.result.lines.items
-    (standing_of new (slots_of new c.serve_phase-served.new.slots.held.items)) c.loop-orders.printed c.args.engine.core.begun.rounds max_place are (sym c.into_vec.ensures ∙ served.2) served.4 c.loop-orders.invariant.printed c.requires.rounds
+    subst (λ l. c.loop-orders.printed + length l ≤ max_place) (sym c.deref.ensures.value)
+    (lines_fit g.D.Disk.ports_fail mid.faults new.faults c.args.phases c.loop-orders.yielded rest c.in-Some.orders served.0 served.1 (standing_of mid (slots_of mid c.loop-orders.slots.held.items)) c.serve_phase-served.result.lines.items
+    (standing_of new (slots_of new c.serve_phase-served.new.slots.held.items)) c.loop-orders.printed c.args.engine.core.begun.rounds max_place are (sym c.into_vec.ensures ∙ served.2) served.4 c.loop-orders.invariant.printed c.requires.rounds)
+
+pub overflow_add-printed : goal.overflow_add-printed
+overflow_add-printed g c =
+    let mid = view_of c.loop-orders.engine.core in
+    let new = view_of c.serve_phase-served.new.engine.core in
+    let served = c.serve_phase-served.ensures.served in
+    let rest = c.next.new.self.rest.items in
+    let are : c.args.phases ≡ c.loop-orders.yielded ++ c.in-Some.orders ∷ rest =
+    taken_next c.args.phases c.into_iter-orders-iterator.result c.loop-orders.yielded c.loop-orders.orders-iterator c.in-Some.orders rest (c.into_iter-orders-iterator.ensures.into_iter_gives.0 ∙ c.into_vec-orders-items.ensures) c.loop-orders.yielded_by c.in-Some.ensures.steps.0 in
+    let fit =
+      lines_fit g.D.Disk.ports_fail mid.faults new.faults c.args.phases c.loop-orders.yielded rest c.in-Some.orders served.0 served.1 (standing_of mid (slots_of mid c.loop-orders.slots.held.items)) c.serve_phase-served.result.lines.items
+      (standing_of new (slots_of new c.serve_phase-served.new.slots.held.items)) c.loop-orders.printed c.args.engine.core.begun.rounds max_place are (sym c.into_vec.ensures ∙ served.2) served.4 c.loop-orders.invariant.printed c.requires.rounds in
+    let size = c.len.ensures in
+    omega (arith, fit, size)
