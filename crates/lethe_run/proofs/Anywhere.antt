@@ -1,37 +1,84 @@
 -- What replies and lines tell on any disk.
-use Rattle.std.proofs.Common.{◌≡◌, inl, inr, ◌≤◌, ℕ, suc, ◌+◌, List, [], ◌∷◌, ◌++◌, length, Option, Some, None, Result, Ok, Err, refl, sym, ap, ◌∙◌, subst, arith}
+use Rattle.std.proofs.Common.{◌≡◌, ◌⊎◌, inl, inr, ◌≤◌, ℕ, suc, ◌+◌, List, [], ◌∷◌, ◌++◌, length, Option, Some, None, Result, Ok, Err, refl, sym, ap, ◌∙◌, subst, arith}
 use Rattle.std.specs.Prelude.{IfErr, IfOk, IsErrOf, IsSome, MatchResult}
 use Rattle.std.specs.Result.{result_err}
 use Rattle.lethe_base.specs.Counts.{Rose}
 use Rattle.lethe_base.specs.declared.call.Call.{Call}
+use Rattle.lethe_base.specs.declared.call.Call.TheVariants as calls
+use Rattle.lethe_base.specs.Limits.{max_place}
 use Rattle.lethe_base.specs.declared.memory.NoMemory.{NoMemory}
 use Rattle.lethe_base.specs.declared.refused.Refused.{Refused}
 use Rattle.lethe_base.specs.declared.refused.Refused.TheVariants as refused
-use Rattle.lethe_core.specs.Asked.{Makes}
-use Rattle.lethe_core.specs.Reasons.{HasReason, IsUnreadable}
+use Rattle.lethe_core.specs.Asked.{Makes, clock_behind}
+use Rattle.lethe_core.proofs.Asked.{clock_refused}
+use Rattle.lethe_core.specs.Reasons.{HasReason, IsShortOfRoom, IsUnreadable}
 use Rattle.lethe_core.specs.View.{Face, View, face_of}
 use Rattle.lethe_engine.specs.Answers as engine
 use Rattle.lethe_read.specs.Refusals.{IsReadRefusal}
-use Rattle.lethe_engine.specs.Refusals.{HasReasonOfChange}
+use Rattle.lethe_engine.specs.Refusals.{HasReasonOfChange, SeesRoom}
 use Rattle.lethe_script.specs.declared.order.Act.{Act}
+use Rattle.lethe_script.specs.declared.order.Act.TheVariants as acts
 use Rattle.lethe_script.specs.declared.order.Order.{Order}
+use Rattle.lethe_state.specs.Clock.{Clock, clock_of}
+use Rattle.lethe_state.specs.Room.{frozen_len}
+use Rattle.lethe_state.specs.declared.state.State.{State}
 use Rattle.lethe_run.specs.declared.reply.Line.{Line}
 use Rattle.lethe_run.specs.declared.reply.Line.TheVariants as line
 use Rattle.lethe_run.specs.declared.reply.Reply.{Reply}
 use Rattle.lethe_run.specs.declared.reply.Reply.TheVariants.{Done, Ticked, Got, Scanned, Counted, Pinned, PinGot, PinScanned, Unpinned, Fault, Stopped, Exhausted, Backwards, Barred, ReadFault, Damaged}
-use Rattle.lethe_run.specs.Anywhere.{AreTold, AreToldThrough, IsTold, MayChange, Standing, standing_of}
+use Rattle.lethe_run.specs.Anywhere.{AreTold, AreToldThrough, IsDrawn, IsLater, IsTold, MayChange, Standing, entries_of, standing_of}
 use Rattle.lethe_run.specs.Replies.{refusal_of, reply_of, unread_of}
 use Rattle.lethe_run.specs.Slots.{Slots}
 use Rattle.lethe_run.specs.Transcript.{IsRead, call_of, change_of}
+use Rattle.lethe_run.proofs.Shorts.{drawn_for_room}
 use Rattle.lethe_run.proofs.Steps.{asks_change}
 
 -- what a reply tells of the store and the slots before and behind; for want of memory all stand alike
 abbrev pub Tells : Type 0 → Act → Result Reply NoMemory → View → Slots → View → Slots → Type 0
 Tells PortsFail act result old before new behind =
-    MatchResult result (λ reply. IsTold PortsFail old.faults new.faults act (standing_of old before) reply (standing_of new behind)) (λ why. standing_of new behind ≡ standing_of old before)
+    MatchResult result (λ reply. IsTold PortsFail old.faults new.faults act (standing_of old before) reply (standing_of new behind)) (λ why. IsLater (standing_of old before) (standing_of new behind))
 
-pub stands_so : (view : View) (slots : Slots) (s : Standing) → view.state.count ≡ s.count → view.state.stopped ≡ s.failed → slots ≡ s.slots → standing_of view slots ≡ s
-stands_so view slots s counted stopped holds = λ i. record { count = counted i; failed = stopped i; slots = holds i }
+-- Standings
+
+pub stands_so : (view : View) (slots : Slots) (s : Standing) → view.state.count ≡ s.count → view.state.stopped ≡ s.failed → clock_of view.state.manifest ≡ s.clock → slots ≡ s.slots
+    → standing_of view slots ≡ record s { next = view.state.next; entries = entries_of view.levels view.state.manifest.files }
+stands_so view slots s counted stopped clock holds = λ i. record {
+  count = counted i;
+  failed = stopped i;
+  clock = clock i;
+  slots = holds i;
+  next = view.state.next;
+  entries = entries_of view.levels view.state.manifest.files;
+}
+
+-- all is as it was
+pub stands_still : (old new : View) (before behind : Slots) → new.state ≡ old.state → new.levels ≡ old.levels → behind ≡ before → standing_of new behind ≡ standing_of old before
+stands_still old new before behind state levels kept = λ i. record {
+  count = (state i).count;
+  failed = (state i).stopped;
+  clock = clock_of (state i).manifest;
+  slots = kept i;
+  next = (state i).next;
+  entries = entries_of (levels i) (state i).manifest.files;
+}
+
+-- and so is the next number
+pub next_still : (old new : View) → new.state ≡ old.state → old.state.next ≤ new.state.next
+next_still old new state = let same = ap (λ (state : State). state.next) state in omega (arith, same)
+
+pub later_itself : (s : Standing) → IsLater s s
+later_itself s = (omega arith, refl)
+
+pub later_then : (s m t : Standing) → IsLater s m → IsLater m t → IsLater s t
+later_then s m t first then =
+    let a = first.0 in
+    let b = then.0 in
+    (omega (arith, a, b), then.1 ∙ ap (λ (m : Standing). record m { next = t.next; entries = t.entries }) first.1)
+
+-- where for want of memory all is as it was, no less is said
+pub match_later : {T E : Type 0} (P : T → Type 0) (r : Result T E) (s t : Standing) → MatchResult r P (λ why. t ≡ s) → MatchResult r P (λ why. IsLater s t)
+match_later P (Ok x) s t is = is
+match_later P (Err why) s t is = subst (IsLater s) (sym is) (later_itself s)
 
 none_of : (stopped : Option ℕ) → ((at : ℕ) → stopped ≡ Some at → ⊥) → stopped ≡ None
 none_of None never = refl
@@ -48,9 +95,13 @@ module _ (Told Ports : Type 0) (act : Act) (call : Call) (is : call_of act ≡ S
   abbrev pub Says : Option Refused → Type 0
   Says why = engine.Answers Told (Makes call) why face old new
 
+  -- the clock stands
+  stood : (why : Refused) → Says (Some why) → clock_of new.state.manifest ≡ clock_of old.state.manifest
+  stood why says = says.clock ∙ clock_refused (Makes call) why (clock_of old.state.manifest)
+
   -- it isn't made
-  pub still : new.state.count ≡ old.state.count → new.state.stopped ≡ old.state.stopped → standing_of new behind ≡ standing_of old before
-  still count stopped = stands_so new behind (standing_of old before) count stopped kept
+  pub still : (why : Refused) → Says (Some why) → new.state.count ≡ old.state.count → new.state.stopped ≡ old.state.stopped → IsLater (standing_of old before) (standing_of new behind)
+  still why says count stopped = (says.drawn, stands_so new behind (standing_of old before) count stopped (stood why says) kept)
 
   may : old.state.stopped ≡ None → MayChange act (standing_of old before)
   may runs = (asks_change act call is, runs)
@@ -63,26 +114,41 @@ module _ (Told Ports : Type 0) (act : Act) (call : Call) (is : call_of act ≡ S
       omega (arith, b_is),
       subst (λ n. Rose n a) (sym b_is) (subst (Rose old.faults) (sym a_is) rose),
       omega (arith, a_is),
-      stands_so new behind (record { count = place; failed = Some place; slots = before }) (says.count ∙ sym place_is) says.stopped kept,
+      stands_so new behind (record (standing_of old before) { count = place; failed = Some place }) (says.count ∙ sym place_is) says.stopped (stood (refused.Fault place b a) says) kept,
     ),
     kept,
+    says.drawn,
   )
 
-  pub hindered : (Short : Type 0) (why : Refused) → HasReason Short old.state old.faults new.faults why → Says (Some why) → Tells Ports act (refusal_of why) old before new behind
-  hindered Short (refused.Fault place b a) reason says = failed place b a reason.0 reason.1 reason.2 reason.3 reason.4 says
-  hindered Short (refused.Stopped at) reason says = ((asks_change act call is, reason, still says.count says.stopped), kept)
-  hindered Short (refused.Exhausted last) reason says = ((may reason.0, reason.1, still says.count says.stopped), kept)
-  hindered Short refused.NoMemory reason says = still says.count says.stopped
-  hindered Short (refused.Backwards clock) reason says = absurd reason
-  hindered Short (refused.Pinned pin limit) reason says = absurd reason
-  hindered Short refused.NothingDue reason says = absurd reason
-  hindered Short (refused.Cancelled begun other) reason says = absurd reason
-  hindered Short (refused.ReadFault b a) reason says = absurd reason
-  hindered Short (refused.Damaged name) reason says = absurd reason
+  -- behind a change that failed all is as it was
+  stopped : (at : ℕ) → old.state.stopped ≡ Some at → Says (Some (refused.Stopped at)) → Tells Ports act (Ok (Stopped at)) old before new behind
+  stopped at was says =
+      let idle = says.still (subst IsSome (sym was) refl) in
+      ((asks_change act call is, was, stands_still old new before behind idle.state idle.levels kept), kept, says.drawn)
+
+  -- places run out, or numbers
+  exhausted : (last : ℕ) → old.state.stopped ≡ None → last ≡ max_place → (old.state.count ≡ max_place) ⊎ IsDrawn (standing_of new behind) → Says (Some (refused.Exhausted last)) → Tells Ports act (Ok (Exhausted last)) old before new behind
+  exhausted last runs last_is why says = ((may runs, last_is, why, (still (refused.Exhausted last) says says.count says.stopped).1), kept, says.drawn)
+
+  full_or_drawn : (Short : Type 0) → (Short → IsDrawn (standing_of new behind)) → (old.state.count ≡ max_place) ⊎ Short → (old.state.count ≡ max_place) ⊎ IsDrawn (standing_of new behind)
+  full_or_drawn Short lacks (inl full) = inl full
+  full_or_drawn Short lacks (inr short) = inr (lacks short)
+
+  pub hindered : (Short : Type 0) → (Short → IsDrawn (standing_of new behind)) → (why : Refused) → HasReason Short old.state old.faults new.faults why → Says (Some why) → Tells Ports act (refusal_of why) old before new behind
+  hindered Short lacks (refused.Fault place b a) reason says = failed place b a reason.0 reason.1 reason.2 reason.3 reason.4 says
+  hindered Short lacks (refused.Stopped at) reason says = stopped at reason says
+  hindered Short lacks (refused.Exhausted last) reason says = exhausted last reason.0 reason.1 (full_or_drawn Short lacks reason.2) says
+  hindered Short lacks refused.NoMemory reason says = still refused.NoMemory says says.count says.stopped
+  hindered Short lacks (refused.Backwards clock) reason says = absurd reason
+  hindered Short lacks (refused.Pinned pin limit) reason says = absurd reason
+  hindered Short lacks refused.NothingDue reason says = absurd reason
+  hindered Short lacks (refused.Cancelled begun other) reason says = absurd reason
+  hindered Short lacks (refused.ReadFault b a) reason says = absurd reason
+  hindered Short lacks (refused.Damaged name) reason says = absurd reason
 
   pub unreadable : (faults_before faults_now : ℕ) (why : Refused) → old.state.stopped ≡ None → IsUnreadable Told Ports faults_before faults_now why → Says (Some why) → Tells Ports act (refusal_of why) old before new behind
-  unreadable faults_before faults_now (refused.ReadFault b a) runs reason says = ((inr (may runs), reason.0, still says.count says.stopped), kept)
-  unreadable faults_before faults_now (refused.Damaged name) runs reason says = ((inr (may runs), still says.count says.stopped), kept)
+  unreadable faults_before faults_now (refused.ReadFault b a) runs reason says = ((inr (may runs, (still (refused.ReadFault b a) says says.count says.stopped).1), reason.0), kept, says.drawn)
+  unreadable faults_before faults_now (refused.Damaged name) runs reason says = (inr (may runs, (still (refused.Damaged name) says says.count says.stopped).1), kept, says.drawn)
   unreadable faults_before faults_now (refused.Fault place b a) runs reason says = absurd reason
   unreadable faults_before faults_now (refused.Stopped at) runs reason says = absurd reason
   unreadable faults_before faults_now (refused.Exhausted last) runs reason says = absurd reason
@@ -92,26 +158,56 @@ module _ (Told Ports : Type 0) (act : Act) (call : Call) (is : call_of act ≡ S
   unreadable faults_before faults_now refused.NothingDue runs reason says = absurd reason
   unreadable faults_before faults_now (refused.Cancelled begun other) runs reason says = absurd reason
 
--- A change
+-- A change, which is no tick
+
+no_tick : (act : Act) (to : ℕ) → change_of act ≡ Some (calls.Tick to) → ⊥
+no_tick (acts.Put key dkey value) to is = cc
+no_tick (acts.Get key) to is = cc
+no_tick (acts.Scan lo hi) to is = cc
+no_tick (acts.Delete key) to is = cc
+no_tick (acts.Erase range) to is = cc
+no_tick acts.Stat to is = cc
+no_tick (acts.Tick time) to is = cc
+no_tick (acts.Pin slot) to is = cc
+no_tick (acts.PinGet slot key) to is = cc
+no_tick (acts.PinScan slot lo hi) to is = cc
+no_tick (acts.Unpin slot) to is = cc
+
+clock_made : (act : Act) (call : Call) (clock : Clock) → change_of act ≡ Some call → clock_behind (Makes call) None clock ≡ clock
+clock_made act (calls.Tick to) clock is = absurd (no_tick act to is)
+clock_made act (calls.Put key dkey value) clock is = refl
+clock_made act (calls.Delete key) clock is = refl
+clock_made act (calls.Erase range) clock is = refl
+clock_made act calls.Work clock is = refl
 
 module _ (Told Ports : Type 0) (act : Act) (call : Call) (is : call_of act ≡ Some call) (writes : change_of act ≡ Some call) (old new : View) (before behind : Slots) where
   abbrev face : Face
   face = face_of old
 
-  pub change_tells : behind ≡ before → (faults_before faults_now : ℕ) (result : Result ℕ Refused) → engine.Answers Told (Makes call) (result_err result) face old new → IfOk result (λ place. place ≡ old.state.count + 1)
+  pub change_tells : frozen_len old.state.frozen ≤ 16384 → behind ≡ before → (faults_before faults_now : ℕ) (result : Result ℕ Refused) → engine.Answers Told (Makes call) (result_err result) face old new → IfOk result (λ place. place ≡ old.state.count + 1)
       → IfErr result (HasReasonOfChange Told Ports old new faults_before faults_now) → ((at : ℕ) → old.state.stopped ≡ Some at → IsErrOf result (refused.Stopped at)) → Tells Ports act (reply_of result) old before new behind
-  change_tells kept faults_before faults_now (Ok place) says place_is why stop =
+  change_tells small kept faults_before faults_now (Ok place) says place_is why stop =
       let runs = ok_runs old (Ok place) place refl stop in
-      ((subst IsSome (sym writes) refl, runs, place_is, stands_so new behind (record { count = place; failed = None; slots = before }) (says.count ∙ sym place_is) (says.stopped ∙ runs) kept), kept)
-  change_tells kept faults_before faults_now (Err why) says place_is (inl reason) stop = hindered Told Ports act call is face old new before behind kept _ why reason says
-  change_tells kept faults_before faults_now (Err why) says place_is (inr reason) stop = unreadable Told Ports act call is face old new before behind kept faults_before faults_now why reason.1 reason.2 says
+      let clock = says.clock ∙ clock_made act call (clock_of old.state.manifest) writes in (
+        (
+          subst IsSome (sym writes) refl,
+          runs,
+          place_is,
+          stands_so new behind (record (standing_of old before) { count = place; failed = None }) (says.count ∙ sym place_is) (says.stopped ∙ runs) clock kept,
+        ),
+        kept,
+        says.drawn,
+      )
+  change_tells small kept faults_before faults_now (Err why) says place_is (inl reason) stop =
+      hindered Told Ports act call is face old new before behind kept ((SeesRoom old.state → ⊥) × IsShortOfRoom Told old.state new) (λ short. drawn_for_room Told old new behind small says.drawn short.1) why reason says
+  change_tells small kept faults_before faults_now (Err why) says place_is (inr reason) stop = unreadable Told Ports act call is face old new before behind kept faults_before faults_now why reason.1 reason.2 says
 
 -- A read that is refused
 
 pub unread_tells : (Ports : Type 0) (act : Act) (view : View) (slots : Slots) → IsRead act → (why : Refused) → IsReadRefusal why → ((before after : ℕ) → why ≡ refused.ReadFault before after → Ports) → Tells Ports act (unread_of why) view slots view slots
-unread_tells Ports act view slots is (refused.ReadFault before after) reason fails = ((inl is, fails before after refl, refl), refl)
-unread_tells Ports act view slots is (refused.Damaged name) reason fails = ((inl is, refl), refl)
-unread_tells Ports act view slots is refused.NoMemory reason fails = refl
+unread_tells Ports act view slots is (refused.ReadFault before after) reason fails = ((inl (is, refl), fails before after refl), refl, omega arith)
+unread_tells Ports act view slots is (refused.Damaged name) reason fails = (inl (is, refl), refl, omega arith)
+unread_tells Ports act view slots is refused.NoMemory reason fails = later_itself (standing_of view slots)
 unread_tells Ports act view slots is (refused.Fault place before after) reason fails = absurd reason
 unread_tells Ports act view slots is (refused.Stopped at) reason fails = absurd reason
 unread_tells Ports act view slots is (refused.Exhausted last) reason fails = absurd reason
@@ -123,8 +219,8 @@ unread_tells Ports act view slots is (refused.Cancelled begun other) reason fail
 -- and one of what a slot holds
 pub slot_unread_tells : (Ports : Type 0) (from upto : ℕ) (act : Act) (s : Standing) → IsRead act → (why : Refused) → IsReadRefusal why → ((before after : ℕ) → why ≡ refused.ReadFault before after → Ports)
     → IfOk (unread_of why) (λ reply. IsTold Ports from upto act s reply s)
-slot_unread_tells Ports from upto act s is (refused.ReadFault before after) reason fails = ((inl is, fails before after refl, refl), refl)
-slot_unread_tells Ports from upto act s is (refused.Damaged name) reason fails = ((inl is, refl), refl)
+slot_unread_tells Ports from upto act s is (refused.ReadFault before after) reason fails = ((inl (is, refl), fails before after refl), refl, omega arith)
+slot_unread_tells Ports from upto act s is (refused.Damaged name) reason fails = (inl (is, refl), refl, omega arith)
 slot_unread_tells Ports from upto act s is refused.NoMemory reason fails = tt
 slot_unread_tells Ports from upto act s is (refused.Fault place before after) reason fails = absurd reason
 slot_unread_tells Ports from upto act s is (refused.Stopped at) reason fails = absurd reason
@@ -142,7 +238,7 @@ module _ (Ports : Type 0) (from upto low high : ℕ) (below : low ≤ from) (abo
   wider act s (Ticked ticked) t told = told
   wider act s (Backwards point clock) t told = told
   wider act s (Barred number limit) t told = told
-  wider act s (Fault place b a) t told = let first = told.0.2 in let last = told.0.4 in ((told.0.0, told.0.1, omega (arith, first, below), told.0.3, omega (arith, last, above), told.0.5), told.1)
+  wider act s (Fault place b a) t told = let first = told.0.2 in let last = told.0.4 in ((told.0.0, told.0.1, omega (arith, first, below), told.0.3, omega (arith, last, above), told.0.5), told.1, told.2)
   wider act s (Stopped at) t told = told
   wider act s (Exhausted last) t told = told
   wider act s (Got point held) t told = told
@@ -159,7 +255,7 @@ module _ (Ports : Type 0) (from upto low high : ℕ) (below : low ≤ from) (abo
   told_wider [] s [] t told = told
   told_wider [] s (l ∷ lines) t told = absurd told
   told_wider (order ∷ orders) s [] t told = absurd told
-  told_wider (order ∷ orders) s (line.Answer caller reply ∷ lines) t told = (told.0, told.1, wider order.act s reply told.1 told.2, told_wider orders told.1 lines t told.3)
+  told_wider (order ∷ orders) s (line.Answer caller reply ∷ lines) t told = (told.0, told.1, (told.2.0, told.2.1, wider order.act told.2.0 reply told.1 told.2.2), told_wider orders told.1 lines t told.3)
 
   pub through_wider : (phases : List (List Order)) (s : Standing) (lines : List (List Line)) (t : Standing) → AreToldThrough Ports from upto phases s lines t → AreToldThrough Ports low high phases s lines t
   through_wider [] s [] t told = told

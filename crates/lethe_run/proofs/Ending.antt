@@ -22,7 +22,7 @@ use Rattle.lethe_script.specs.declared.order.Order.{Order}
 use Rattle.lethe_script.specs.declared.refused.BadLine.{BadLine}
 use Rattle.lethe_script.specs.Grammar.{script_of}
 use Rattle.lethe_run.specs.declared.reply.Line.{Line}
-use Rattle.lethe_run.specs.Anywhere.{AreToldThrough, IsPlausible, standing_of}
+use Rattle.lethe_run.specs.Anywhere.{IsPlausible, standing_of}
 use Rattle.lethe_run.specs.Carried.{IsCarriedOut}
 use Rattle.lethe_run.specs.Ends.{Run, Asks, IsCommand, IsNoCommand, IsUnused, OnScript, Carries, IsBegun, IsSoundFor, course_of, IsNoScript, IsNotOpened}
 use Rattle.lethe_run.specs.Printed.{bad_words, bad_line, open_line}
@@ -34,7 +34,7 @@ use Rattle.lethe_run.specs.Status.{EndsWith, status_for}
 use Rattle.lethe_run.specs.declared.reason.Reason.{Reason}
 use Rattle.lethe_run.specs.declared.reason.Reason.TheVariants as reason
 use Rattle.lethe_run.specs.Transcript.{Start, text_of}
-use Rattle.lethe_run.proofs.Anywhere.{stands_so, through_wider}
+use Rattle.lethe_run.proofs.Anywhere.{through_wider}
 use Rattle.lethe_run.proofs.Phases.{front_text}
 use Rattle.lethe_run.proofs.Refusals.{none_refused, one_refused}
 
@@ -148,7 +148,7 @@ ends_so run (reason.Answer line) e = (e.0, e.1, inl e.2)
 -- A script that was carried out
 
 module _ (run : Run) (config : Fields) (asks : Asks run config) (phases : List (List Order)) (script : (P : List (List Order) → Type 0) → P phases → OnScript run P) (mid : View) (up : run.faults_before ≤ mid.faults)
-    (runs : mid.state.stopped ≡ None)
+    (runs : mid.state.stopped ≡ None) (config_is : mid.state.manifest.config ≡ config)
     (resumed : run.Tells → (kept : Fields) (h : History) (change : Option Change) → IsLeft kept run.start h change → IsResumed config h change run.start mid)
     (moments : run.Tells → (kept : Fields) (h : History) (change : Option Change) → IsLeft kept run.start h change → Goes (IsKeptInOpening kept config h change run.start.directory) run.start mid.disk)
     (sound : IsSoundFor run config) (itself : run.Tells → Image run.start run.start.directory)
@@ -206,12 +206,14 @@ module _ (run : Run) (config : Fields) (asks : Asks run config) (phases : List (
     ];
   }
 
-  plausible : (front : List (List Order)) (lines : List (List Line)) → IsToldFrom run.PortsFail mid run.faults front lines → IsPlausible run.PortsFail run.faults_before run.faults front lines
+  plausible : (front : List (List Order)) (lines : List (List Line)) → IsToldFrom run.PortsFail mid run.faults front lines → IsPlausible run.PortsFail config run.faults_before run.faults front lines
   plausible front lines told = record {
-    opened = mid.state.count;
+    opened = standing_of mid no_slots;
+    threshold = ap (λ (fields : Fields). fields.threshold) config_is;
+    runs = runs;
+    unpinned = refl;
     end = told.0;
-    told = subst (λ s. AreToldThrough run.PortsFail run.faults_before run.faults front s lines told.0) (stands_so mid no_slots (record { count = mid.state.count; failed = None; slots = no_slots }) refl runs refl)
-        (through_wider run.PortsFail mid.faults run.faults run.faults_before run.faults up (omega arith) front (standing_of mid no_slots) lines told.0 told.1);
+    told = through_wider run.PortsFail mid.faults run.faults run.faults_before run.faults up (omega arith) front (standing_of mid no_slots) lines told.0 told.1;
   }
 
   carries : (front : List (List Order)) (lines : List (List Line)) → IsToldFrom run.PortsFail mid run.faults front lines → Serves run.Tells run.PortsFail mid run.finish run.faults front lines → Carries run config front lines

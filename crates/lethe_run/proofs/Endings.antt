@@ -7,7 +7,6 @@ use Rattle.lethe_base.specs.declared.config.Fields.{Fields}
 use Rattle.lethe_disk.specs.Disk.{Image, IsIdle, Seen}
 use Rattle.lethe_engine.specs.StandsFor.{Opened, StandsSince}
 use Rattle.lethe_core.specs.View.{View}
-use Rattle.lethe_state.specs.declared.state.State.{State}
 use Rattle.lethe_script.specs.declared.order.Order.{Order}
 use Rattle.lethe_wire.specs.Causes.{AppendsFront}
 use Rattle.lethe_run.specs.declared.reply.Line.{Line}
@@ -22,7 +21,7 @@ use Rattle.lethe_run.specs.Scripts.{All, Behind, Inside, IsToldFrom, Serves, Scr
 use Rattle.lethe_run.specs.Serving.{IsOn, IsPhase, Point, opened_in}
 use Rattle.lethe_run.specs.Slots.{Slots, no_slots}
 use Rattle.lethe_run.specs.Transcript.{Start, text_of}
-use Rattle.lethe_run.proofs.Anywhere.{as_many, stands_so, through_more}
+use Rattle.lethe_run.proofs.Anywhere.{as_many, stands_still, through_more}
 use Rattle.lethe_run.proofs.Images.{calls_then}
 use Rattle.lethe_run.proofs.Phases.{SoFar, front_text, so_far_start, so_far_more, carried}
 
@@ -167,11 +166,11 @@ module _ (Tells Ports : Type 0) (start mid : View) (idle : Tells → IsIdle star
           pace = c.pace;
         }
 
-    module _ (state : mid.state ≡ start.state) (faults : mid.faults ≡ start.faults) (old new : Option Bytes) where
+    module _ (state : mid.state ≡ start.state) (levels : mid.levels ≡ start.levels) (faults : mid.faults ≡ start.faults) (old new : Option Bytes) where
       told_idle : (phases : List (List Order)) (lines : List (List Line)) → IsToldFrom Ports mid now phases lines → IsToldFrom Ports start now phases lines
       told_idle phases lines told = (
         told.0,
-        subst (λ s. AreToldThrough Ports start.faults now phases s lines told.0) (stands_so mid no_slots (standing_of start no_slots) (ap (λ (state : State). state.count) state) (ap (λ (state : State). state.stopped) state) refl)
+        subst (λ s. AreToldThrough Ports start.faults now phases s lines told.0) (stands_still start mid no_slots no_slots state levels refl)
             (subst (λ n. AreToldThrough Ports n now phases (standing_of mid no_slots) lines told.0) faults told.1),
       )
 

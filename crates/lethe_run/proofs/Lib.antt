@@ -9,6 +9,7 @@ pub mod Seen
 pub mod Pins
 pub mod Holding
 pub mod Anywhere
+pub mod Prepared
 pub mod Ticking
 pub mod Looks
 pub mod Pinned

@@ -31,6 +31,7 @@ use Rattle.lethe_run.specs.Replies.{unread_of}
 use Rattle.lethe_run.specs.Serving.{Advances, IsAnswered, IsBorneOn, IsLookedUp, IsOn, Point, opened_in}
 use Rattle.lethe_run.specs.Slots.{Pin, Slots, pin_in, with_pin, without_pin}
 use Rattle.lethe_run.specs.Transcript.{Answers, Course, Follows, IsAnswerAt, IsRead, Start, course}
+use Rattle.lethe_run.proofs.Anywhere.{next_still, stands_still}
 use Rattle.lethe_run.proofs.Outcomes.{told_of}
 use Rattle.lethe_run.proofs.Seen.{seen_later}
 
@@ -98,9 +99,9 @@ slot_unread Ports begin faults moment h caller act is (refused.Cancelled begun n
 -- On any disk
 
 -- nothing but the slots changes
-module _ (old new : View) (state : new.state ≡ old.state) where
+module _ (old new : View) (state : new.state ≡ old.state) (levels : new.levels ≡ old.levels) where
   pub slots_alone : (before behind : Slots) → standing_of new behind ≡ record (standing_of old before) { slots = behind }
-  slots_alone before behind = λ i. record { count = (state i).count; failed = (state i).stopped; slots = behind }
+  slots_alone before behind = stands_still old new behind behind state levels refl
 
   module _ (Ports : Type 0) (before behind : Slots) (slot : ℕ) (pin : Pin) where
     pub pin_told : (point number limit : ℕ) → point ≡ pin.point → number ≡ pin.number → limit ≡ pin.limit → pin.point ≡ old.state.count → pin.number ≡ before.made + 1 → pin_in before slot ≡ None → behind ≡ with_pin slot pin before
@@ -108,8 +109,9 @@ module _ (old new : View) (state : new.state ≡ old.state) where
     pin_told point number limit point_is number_is limit_is at next free is = (
       ((slot, refl), point_is ∙ at, slots_alone before behind),
       (slot, refl, free, number_is ∙ next, is ∙ (λ i. with_pin slot (record { number = sym number_is i; point = sym point_is i; limit = sym limit_is i }) before)),
+      next_still old new state,
     )
 
     pub unpin_told : (point number : ℕ) → point ≡ old.state.count → number ≡ pin.number → pin_in before slot ≡ Some pin → behind ≡ without_pin slot before
         → IsTold Ports old.faults new.faults (acts.Unpin slot) (standing_of old before) (reply.Unpinned point number) (standing_of new behind)
-    unpin_told point number at number_is there is = ((at, slots_alone before behind), (slot, refl, pin, there, sym number_is, is))
+    unpin_told point number at number_is there is = ((at, slots_alone before behind), (slot, refl, pin, there, sym number_is, is), next_still old new state)

@@ -26,14 +26,14 @@ use Rattle.lethe_run.specs.declared.reply.Line.{Line}
 use Rattle.lethe_run.specs.declared.reply.Line.TheVariants as line
 use Rattle.lethe_run.specs.declared.reply.Reply.{Reply}
 use Rattle.lethe_run.specs.declared.reply.Reply.TheVariants as reply
-use Rattle.lethe_run.specs.Anywhere.{AreTold, IsTold, Standing, standing_of}
+use Rattle.lethe_run.specs.Anywhere.{AreTold, IsLater, IsTold, Standing, entries_of, standing_of}
 use Rattle.lethe_run.specs.Carried.{IsSeen, certificate_of, certificates_in, look_of, looks_in}
 use Rattle.lethe_run.specs.Holding.{AreShown, slots_of}
 use Rattle.lethe_run.specs.Rows.{HasMade, HasServed, IsStretch, act_of, done_lines, orders_of, stopped_lines, unlined}
 use Rattle.lethe_run.specs.Serving.{Advances, IsAnswered, IsBorneOn, IsOn, IsPhase, Point, opened_in}
 use Rattle.lethe_run.specs.Slots.{Slots}
 use Rattle.lethe_run.specs.Transcript.{Answered, Course, InTurn, IsFailedAt, IsFaultOf, Start, Told, WasStopped, call_of, change_of, course, places_behind}
-use Rattle.lethe_run.proofs.Anywhere.{stands_so, told_wider}
+use Rattle.lethe_run.proofs.Anywhere.{later_itself, later_then, stands_so, told_wider}
 use Rattle.lethe_run.proofs.Holding.{none_if, same_slots, shown_later}
 use Rattle.lethe_run.proofs.Outcomes.{told_of}
 use Rattle.lethe_run.proofs.Seen.{all_seen_later}
@@ -85,9 +85,15 @@ none_lined (o ∷ orders) e = absurd (let clash : unlined o ∷ map unlined orde
 
 -- Lines one behind another
 
+told_later : (Ports : Type 0) (from upto : ℕ) (orders : List Order) (s m t : Standing) (lines : List Line) → IsLater s m → AreTold Ports from upto orders m lines t → AreTold Ports from upto orders s lines t
+told_later Ports from upto [] s m t [] later told = later_then s m t later told
+told_later Ports from upto [] s m t (l ∷ lines) later told = absurd told
+told_later Ports from upto (o ∷ orders) s m t [] later told = absurd told
+told_later Ports from upto (o ∷ orders) s m t (line.Answer caller r ∷ lines) later told = (told.0, told.1, (told.2.0, later_then s m told.2.0 later told.2.1, told.2.2), told.3)
+
 told_append : (Ports : Type 0) (from upto : ℕ) (first second : List Order) (s m t : Standing) (lines more : List Line) → AreTold Ports from upto first s lines m → AreTold Ports from upto second m more t
     → AreTold Ports from upto (first ++ second) s (lines ++ more) t
-told_append Ports from upto [] second s m t [] more a b = subst (λ s. AreTold Ports from upto second s more t) a b
+told_append Ports from upto [] second s m t [] more a b = told_later Ports from upto second s m t more a b
 told_append Ports from upto [] second s m t (l ∷ lines) more a b = absurd a
 told_append Ports from upto (o ∷ first) second s m t [] more a b = absurd a
 told_append Ports from upto (o ∷ first) second s m t (line.Answer caller r ∷ lines) more a b = (a.0, a.1, a.2, told_append Ports from upto first second a.1 m t lines more a.3 b)
@@ -129,7 +135,7 @@ phase_then Ports begin from start h g first second lines more old mid new le on 
 module _ {D Page Port : Type 0} {kind : Ghosts D Page Port} (Tells Ports : Type 0) where
   pub stretch_none : (view : View) (held : List (Option (Snapshot D Page Port kind))) → IsStretch Tells Ports [] [] view held view held
   stretch_none view held = record {
-    told = refl;
+    told = later_itself (standing_of view (slots_of view held));
     served = λ told begin from start on shown. (start, phase_of Ports begin from start start [] [] view view on (built_start Ports begin start view), shown);
     faults = omega arith;
   }
@@ -165,7 +171,7 @@ module _ {D Page Port : Type 0} {kind : Ghosts D Page Port} (Tells Ports : Type 
       → (Tells → (begin : Start) (from : Point) (h : History) → IsOn begin from h old → AreShown h was → AreShown h held)
       → IsStretch Tells Ports (order ∷ []) (line.Answer order.caller r ∷ []) old was new held
   stretch_one order r old new was held up told served shown = record {
-    told = (refl, standing_of new (slots_of new held), told, refl);
+    told = (refl, standing_of new (slots_of new held), (standing_of old (slots_of old was), later_itself (standing_of old (slots_of old was)), told), later_itself (standing_of new (slots_of new held)));
     served = λ tells begin from start on before.
         let is = served tells begin from start on before in (
           is.0,
@@ -176,7 +182,7 @@ module _ {D Page Port : Type 0} {kind : Ghosts D Page Port} (Tells Ports : Type 
   }
 
   -- one for which there was no memory
-  pub stretch_still : (old new : View) (was held : List (Option (Snapshot D Page Port kind))) → old.faults ≤ new.faults → standing_of new (slots_of new held) ≡ standing_of old (slots_of old was)
+  pub stretch_still : (old new : View) (was held : List (Option (Snapshot D Page Port kind))) → old.faults ≤ new.faults → IsLater (standing_of old (slots_of old was)) (standing_of new (slots_of new held))
       → (Tells → (begin : Start) (from : Point) (h : History) → IsOn begin from h old → AreShown h was → Advances begin h h old new)
       → (Tells → (begin : Start) (from : Point) (h : History) → IsOn begin from h old → AreShown h was → AreShown h held)
       → IsStretch Tells Ports [] [] old was new held
@@ -209,19 +215,22 @@ pub orders_append : (caller : ℕ) (first second : List Asked) → orders_of cal
 orders_append caller first second = map-append (λ (change : Asked). record { line = 0; caller = caller; act = act_of change }) first second
 
 module _ (Ports : Type 0) (from upto caller : ℕ) where
-  told_done : (made : List Asked) (s t : Standing) → s.failed ≡ None → t.count ≡ s.count + length made → t.failed ≡ None → t.slots ≡ s.slots → AreTold Ports from upto (orders_of caller made) s (done_lines caller s.count (length made)) t
-  told_done [] s t runs count failed kept = let counted : t.count ≡ s.count = omega (arith, count) in λ i. record { count = counted i; failed = (failed ∙ sym runs) i; slots = kept i }
-  told_done (x ∷ made) s t runs count failed kept =
-      let next : Standing = record { count = suc s.count; failed = None; slots = s.slots } in (
+  told_done : (made : List Asked) (s t : Standing) → s.failed ≡ None → t.count ≡ s.count + length made → t.failed ≡ None → t.clock ≡ s.clock → t.slots ≡ s.slots → s.next ≤ t.next
+      → AreTold Ports from upto (orders_of caller made) s (done_lines caller s.count (length made)) t
+  told_done [] s t runs count failed clock kept drawn =
+      let counted : t.count ≡ s.count = omega (arith, count) in
+      (drawn, λ i. record { count = counted i; failed = (failed ∙ sym runs) i; clock = clock i; slots = kept i; next = t.next; entries = t.entries })
+  told_done (x ∷ made) s t runs count failed clock kept drawn =
+      let next : Standing = record s { count = suc s.count; failed = None; next = t.next; entries = t.entries } in (
         refl,
         next,
-        ((subst IsSome (sym (change_is x)) refl, runs, sym (add-one s.count), refl), refl),
-        told_done made next t refl (omega (arith, count)) failed kept,
+        (s, later_itself s, ((subst IsSome (sym (change_is x)) refl, runs, sym (add-one s.count), refl), refl, drawn)),
+        told_done made next t refl (omega (arith, count)) failed clock kept (omega arith),
       )
 
   told_stopped : (more : List Asked) (s : Standing) (at : ℕ) → s.failed ≡ Some at → AreTold Ports from upto (orders_of caller more) s (stopped_lines caller at (length more)) s
-  told_stopped [] s at stopped = refl
-  told_stopped (x ∷ more) s at stopped = (refl, s, ((asks x, stopped, refl), refl), told_stopped more s at stopped)
+  told_stopped [] s at stopped = later_itself s
+  told_stopped (x ∷ more) s at stopped = (refl, s, (s, later_itself s, ((asks x, stopped, refl), refl, omega arith)), told_stopped more s at stopped)
 
 -- and on one that tells what it holds
 
@@ -308,7 +317,7 @@ module _ (Tells Ports : Type 0) (caller : ℕ) (changes left : List Asked) (done
       more = done_lines caller old.state.count (length is.row.made);
       are = is.row.are;
       lines = pushed ∙ ap (λ n. before ++ done_lines caller old.state.count n) (sym is.row.many);
-      told = λ slots. told_done Ports old.faults new.faults caller is.row.made (standing_of old slots) (standing_of new slots) runs (is.row.count ∙ ap (λ l. old.state.count + length l) tried_is) still refl;
+      told = λ slots. told_done Ports old.faults new.faults caller is.row.made (standing_of old slots) (standing_of new slots) runs (is.row.count ∙ ap (λ l. old.state.count + length l) tried_is) still is.clock refl is.drawn;
       served = served;
       faults = is.row.faults;
       face = is.face_is;
@@ -354,24 +363,29 @@ module _ (Tells Ports : Type 0) (caller : ℕ) (changes left : List Asked) (done
 
     told_failed : (slots : Slots) → AreTold Ports old.faults new.faults (orders_of caller (is.row.made ++ next ∷ others)) (standing_of old slots) all_lines (standing_of new slots)
     told_failed slots =
-        let mid : Standing = record { count = old.state.count + length is.row.made; failed = None; slots = slots } in
+        let mid : Standing = record (standing_of old slots) { count = old.state.count + length is.row.made; failed = None; next = new.state.next; entries = entries_of new.levels new.state.manifest.files } in
         let t = standing_of new slots in
         let count = is.row.count in
         subst (λ orders. AreTold Ports old.faults new.faults orders (standing_of old slots) all_lines t) (sym (orders_append caller is.row.made (next ∷ others)))
         (told_append Ports old.faults new.faults (orders_of caller is.row.made) (orders_of caller (next ∷ others)) (standing_of old slots) mid t (done_lines caller old.state.count (length is.row.made)) fault_lines
-        (told_done Ports old.faults new.faults caller is.row.made (standing_of old slots) mid runs refl refl refl) (
+        (told_done Ports old.faults new.faults caller is.row.made (standing_of old slots) mid runs refl refl refl refl is.drawn) (
           refl,
           t,
           (
+            mid,
+            later_itself mid,
             (
-              (asks next, refl),
-              omega (arith, place_is, count, tried_is),
-              omega (arith, before_is),
-              rose,
-              omega (arith, after_is),
-              stands_so new slots (record { count = failure.place; failed = Some failure.place; slots = slots }) (sym place_is) stopped refl,
+              (
+                (asks next, refl),
+                omega (arith, place_is, count, tried_is),
+                omega (arith, before_is),
+                rose,
+                omega (arith, after_is),
+                stands_so new slots (record mid { count = failure.place; failed = Some failure.place }) (sym place_is) stopped is.clock refl,
+              ),
+              refl,
+              omega arith,
             ),
-            refl,
           ),
           told_stopped Ports old.faults new.faults caller others t failure.place stopped,
         ))
@@ -508,7 +522,7 @@ row_still Tells Ports caller changes lines view = record {
   more = [];
   are = refl;
   lines = sym (append-nil lines);
-  told = λ slots. refl;
+  told = λ slots. later_itself (standing_of view slots);
   served = λ told begin from start on. (start, phase_of Ports begin from start start [] [] view view on (built_start Ports begin start view));
   faults = omega arith;
   face = refl;

@@ -1,6 +1,6 @@
 -- A tick is answered.
-use Rattle.std.proofs.Common.{◌≡◌, ◌⊎◌, inl, inr, ◌≤◌, ◌<◌, ℕ, suc, ◌+◌, [], ◌∷◌, length, take, Option, Some, None, Result, Ok, Err, refl, sym, ap, ◌∙◌, subst, arith}
-use Rattle.std.specs.Prelude.{All, IfErr, IfOk, IfSome, IsErrOf, OnOk, option_map}
+use Rattle.std.proofs.Common.{◌≡◌, ◌⊎◌, inl, inr, ◌≤◌, ◌<◌, ℕ, suc, ◌+◌, List, [], ◌∷◌, length, take, Option, Some, None, Result, Ok, Err, refl, sym, ap, ◌∙◌, subst, arith}
+use Rattle.std.specs.Prelude.{All, IfErr, IfOk, IfSome, IsErrOf, OnOk, nat_le, option_map}
 use Rattle.std.specs.Result.{result_err}
 use Rattle.std.proofs.lemmas.Bool.{cases_lt}
 use Rattle.std.proofs.lemmas.List.{take_all}
@@ -33,11 +33,13 @@ use Rattle.lethe_manifest.specs.declared.manifest.Manifest.{Manifest}
 use Rattle.lethe_pins.specs.Held.{AreHeld, first_limit_of}
 use Rattle.lethe_script.specs.declared.order.Act.{Act}
 use Rattle.lethe_script.specs.declared.order.Act.TheVariants as acts
+use Rattle.lethe_state.specs.Clock.{Clock, clock_at, clock_of}
 use Rattle.lethe_state.specs.Room.{frozen_len}
 use Rattle.lethe_stored.specs.Clean.{IsClean}
 use Rattle.lethe_stored.specs.Kept.{certificates}
 use Rattle.lethe_stored.specs.Left.{without_failed}
 use Rattle.lethe_run.specs.declared.reply.Reply.TheVariants as reply
+use Rattle.lethe_run.specs.Anywhere.{IsCertificateOf, IsDrawn, standing_of}
 use Rattle.lethe_run.specs.Holding.{HoldsPins}
 use Rattle.lethe_run.specs.Replies.{IsOfTick, refusal_of, tick_refusal_of, tick_reply_of}
 use Rattle.lethe_run.specs.Serving.{IsBorneOn, IsOn, Point}
@@ -48,6 +50,8 @@ use Rattle.lethe_run.proofs.Anywhere as anywhere
 use Rattle.lethe_run.proofs.Lasting.{here, seen_now}
 use Rattle.lethe_run.proofs.Outcomes.{Outcome}
 use Rattle.lethe_run.proofs.Pins.{all_above, barred_by, passed_by}
+use Rattle.lethe_run.proofs.Prepared.{certificate_by, prepared, where_so}
+use Rattle.lethe_run.proofs.Shorts.{drawn_for_tick}
 use Rattle.lethe_run.proofs.Steps.{Replied, Says, advances, hindered, longer, next_place, not_made, unreadable}
 
 -- What doesn't fail
@@ -142,34 +146,71 @@ module _ (to : ℕ) (old new : View) where
       let place = below_of old.state.count max_place few (λ full_is. no_error ticked (refused.Exhausted max_place) (full runs forward (inl full_is))) in
       all_above old.pins.pins to pins.ordered (λ number limit first. above_of to limit (λ reached. no_error ticked (refused.Pinned number limit) (barred (record { runs = runs; forward = forward; place = place; round = rounds }) number limit first reached)))
 
+  -- and its time isn't behind the clock
+  pub forward_so : (result : Result Ticked Refused) → ((at : ℕ) → old.state.stopped ≡ Some at → IsErrOf result (refused.Stopped at))
+      → (old.state.stopped ≡ None → to < old.state.manifest.clock → IsErrOf result (refused.Backwards old.state.manifest.clock)) → OnOk result (old.state.manifest.clock ≤ to)
+  forward_so (Err why) stop behind = tt
+  forward_so (Ok ticked) stop behind =
+      not_below old.state.manifest.clock to (λ ahead. no_error ticked (refused.Backwards old.state.manifest.clock) (behind (ok_runs old (Ok ticked) ticked refl stop) ahead))
+
+  -- its certificate is what the clock behind it has prepared
+  certified : (digest : List ℕ) → clock_of new.state.manifest ≡ clock_at (clock_of old.state.manifest) to → (told : Option Certificate) → IsCertificateAt new.state.manifest.config.threshold to told
+      → told ≡ certificate_by digest new.state.manifest to → IsCertificateOf (clock_of old.state.manifest) to told
+  certified digest clock None due is = let same = ap (λ (clock : Clock). clock.threshold) clock in omega (arith, due, same)
+  certified digest clock (Some certificate) due is =
+      let same = ap (λ (clock : Clock). clock.threshold) clock in
+      let reach = due.1 in (
+        omega (arith, same, reach),
+        sym (ap (λ (clock : Clock). clock.certificate) clock) ∙ prepared digest new.state.manifest.certificate certificate (where_so (nat_le new.state.manifest.config.threshold to) _ certificate (sym is)),
+      )
+
   module _ (Told Ports : Type 0) (point : ℕ) (at : point ≡ old.state.count) (slots behind : Slots) (kept : behind ≡ slots) where
-    backwards_tells : (why : Refused) → IsBehind old to why → anywhere.Says Told Ports act call refl face old new slots behind kept (Some why) → Tells Ports act (tick_refusal_of point why) old slots new behind
-    backwards_tells why (runs, ahead, is) says =
+    backwards_tells : (why : Refused) → (old.state.stopped ≡ None → to < old.state.manifest.clock → new ≡ old) → IsBehind old to why → anywhere.Says Told Ports act call refl face old new slots behind kept (Some why) → Tells Ports act (tick_refusal_of point why) old slots new behind
+    backwards_tells why same (runs, ahead, is) says =
         let told = subst (λ e. anywhere.Says Told Ports act call refl face old new slots behind kept (Some e)) is says in
         subst (λ e. Tells Ports act (tick_refusal_of point e) old slots new behind) (sym is)
-        (((to, refl, ahead), runs, at, anywhere.still Told Ports act call refl face old new slots behind kept told.count told.stopped), kept)
+        (((to, refl, ahead), runs, at, refl, λ i. standing_of (same runs ahead i) (kept i)), kept, told.drawn)
 
     -- the first pin of the least limit is in a slot
-    barred_tells : HoldsPins old slots → AreHeld old.pins → (why : Refused) → IsTickable old to × IsBarred old to why → anywhere.Says Told Ports act call refl face old new slots behind kept (Some why)
+    barred_tells : HoldsPins old slots → AreHeld old.pins → (IsTickable old to → (pin limit : ℕ) → first_limit_of old.pins.pins ≡ Some (pin, limit) → limit ≤ to → new ≡ old) → (why : Refused) → IsTickable old to × IsBarred old to why → anywhere.Says Told Ports act call refl face old new slots behind kept (Some why)
         → Tells Ports act (tick_refusal_of point why) old slots new behind
-    barred_tells holds pins why (may, barred) says =
+    barred_tells holds pins same why (may, barred) says =
         let told = subst (λ e. anywhere.Says Told Ports act call refl face old new slots behind kept (Some e)) barred.told says in
         let by = barred_by old.pins.pins (pins_of slots) barred.pin barred.limit holds.those pins.ordered barred.first in
         subst (λ e. Tells Ports act (tick_refusal_of point e) old slots new behind) (sym barred.told)
-        (((to, refl, barred.reached), may.runs, anywhere.still Told Ports act call refl face old new slots behind kept told.count told.stopped), (by.0, by.1, by.2, by.3, by.4, kept))
+        (((to, refl, barred.reached), may.runs, λ i. standing_of (same may barred.pin barred.limit barred.first barred.reached i) (kept i)), (by.0, by.1, by.2, by.3, by.4, kept), told.drawn)
 
-    pub tick_tells : HoldsPins old slots → AreHeld old.pins → (before now : ℕ) (result : Result Ticked Refused) → OnOk result (All (λ pin. to < pin.limit) old.pins.pins)
+    -- numbers run out for a step; rounds don't
+    nearly : old.rounds < max_place → frozen_len new.state.frozen ≤ 16384 → (max_place ≤ old.rounds) ⊎ IsShortToTick Told to new → IsDrawn (standing_of new behind)
+    nearly rounds small (inl full) = absurd (omega (arith, rounds, full))
+    nearly rounds small (inr few) = drawn_for_tick Told to new behind small few
+
+    pub tick_tells : HoldsPins old slots → AreHeld old.pins → (before now : ℕ) (result : Result Ticked Refused) → OnOk result (All (λ pin. to < pin.limit) old.pins.pins) → OnOk result (old.state.manifest.clock ≤ to)
+        → IfOk result (λ told. IsCertificateAt new.state.manifest.config.threshold to told.certificate) → (digest : List ℕ) → IfOk result (λ told. told.certificate ≡ certificate_by digest new.state.manifest to)
         → anywhere.Says Told Ports act call refl face old new slots behind kept (result_err result)
-        → IfOk result (λ told. (told.place ≡ old.state.count + 1) × (told.clock ≡ to))
+        → IfOk result (λ told. (told.place ≡ old.state.count + 1) × (told.clock ≡ to)) → old.rounds < max_place → frozen_len new.state.frozen ≤ 16384
+        → (old.state.stopped ≡ None → to < old.state.manifest.clock → new ≡ old) → (IsTickable old to → (pin limit : ℕ) → first_limit_of old.pins.pins ≡ Some (pin, limit) → limit ≤ to → new ≡ old)
         → IfErr result (HasReasonOfTick Told Ports to old new before now) → ((at : ℕ) → old.state.stopped ≡ Some at → IsErrOf result (refused.Stopped at)) → Tells Ports act (tick_reply_of point result) old slots new behind
-    tick_tells holds pins before now (Ok ticked) above says is why stop =
+    tick_tells holds pins before now (Ok ticked) above forward due digest certificate says is rounds small ahead_same barred_same why stop =
         let runs = ok_runs old (Ok ticked) ticked refl stop in
-        (((to, refl, is.1), runs, is.0, stands_so new behind (record { count = ticked.place; failed = None; slots = slots }) (says.count ∙ sym is.0) (says.stopped ∙ runs) kept), (subst (λ n. All (λ pin. n < pin.limit) (pins_of slots)) (sym is.1) (passed_by old.pins.pins (pins_of slots) to holds.those above), kept))
-    tick_tells holds pins before now (Err why) above says is (inl ahead) stop = backwards_tells why ahead says
-    tick_tells holds pins before now (Err why) above says is (inr (inl barred)) stop = barred_tells holds pins why barred says
-    tick_tells holds pins before now (Err why) above says is (inr (inr (inl reason))) stop =
-        subst (λ r. Tells Ports act r old slots new behind) (hindered_not_behind point why _ old new.faults reason) (anywhere.hindered Told Ports act call refl face old new slots behind kept _ why reason says)
-    tick_tells holds pins before now (Err why) above says is (inr (inr (inr reason))) stop =
+        let clock = clock_of old.state.manifest in (
+          (
+            (to, refl, is.1),
+            runs,
+            is.0,
+            omega (arith, forward, is.1),
+            subst (λ n. IsCertificateOf clock n ticked.certificate) (sym is.1) (certified digest says.clock ticked.certificate due certificate),
+            stands_so new behind (record (standing_of old slots) { count = ticked.place; failed = None; clock = clock_at clock ticked.clock }) (says.count ∙ sym is.0) (says.stopped ∙ runs) (says.clock ∙ ap (clock_at clock) (sym is.1)) kept,
+          ),
+          (subst (λ n. All (λ pin. n < pin.limit) (pins_of slots)) (sym is.1) (passed_by old.pins.pins (pins_of slots) to holds.those above), kept),
+          says.drawn,
+        )
+    tick_tells holds pins before now (Err why) above forward due digest certificate says is rounds small ahead_same barred_same (inl ahead) stop = backwards_tells why ahead_same ahead says
+    tick_tells holds pins before now (Err why) above forward due digest certificate says is rounds small ahead_same barred_same (inr (inl barred)) stop = barred_tells holds pins barred_same why barred says
+    tick_tells holds pins before now (Err why) above forward due digest certificate says is rounds small ahead_same barred_same (inr (inr (inl reason))) stop =
+        subst (λ r. Tells Ports act r old slots new behind) (hindered_not_behind point why _ old new.faults reason)
+        (anywhere.hindered Told Ports act call refl face old new slots behind kept ((max_place ≤ old.rounds) ⊎ IsShortToTick Told to new) (nearly rounds small) why reason says)
+    tick_tells holds pins before now (Err why) above forward due digest certificate says is rounds small ahead_same barred_same (inr (inr (inr reason))) stop =
         subst (λ r. Tells Ports act r old slots new behind) (unreadable_not_behind point why Told Ports before now reason.1)
         (anywhere.unreadable Told Ports act call refl face old new slots behind kept before now why reason.0 reason.1 says)
 

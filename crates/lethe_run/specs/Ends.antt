@@ -78,7 +78,7 @@ course_of run config next = course run.PortsFail (record { config = config; faul
 
 -- The lines answer these phases as they may on any disk; and on one that tells what it holds they do so over a store of the configuration, and the disk is left so.
 pub record Carries (run : Run) (config : Fields) (phases : List (List Order)) (lines : List (List Line)) : Type 0 where
-  pub told : IsPlausible run.PortsFail run.faults_before run.faults phases lines
+  pub told : IsPlausible run.PortsFail config run.faults_before run.faults phases lines
   pub left : OnLeft run (λ kept left change. (next : ℕ) → IsNextNumber run.start.directory next → IsCarriedOut config (course_of run config next) run.start run.finish kept left change phases lines)
 
 -- the directory shows no damage and no other configuration

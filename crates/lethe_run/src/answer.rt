@@ -6,7 +6,7 @@ ghost use Rattle.lethe_read.specs.Refusals.{IsReadRefusal};
 ghost use Rattle.lethe_core.specs.Running.{IsSound};
 ghost use Rattle.lethe_core.specs.View.{view_of};
 ghost use Rattle.lethe_script.specs.Slots.{held_behind};
-ghost use Rattle.lethe_run.specs.Anywhere.{IsTold, standing_of};
+ghost use Rattle.lethe_run.specs.Anywhere.{IsLater, IsTold, standing_of};
 ghost use Rattle.lethe_run.specs.Holding.{AreShown, HoldsPins, held_in, slots_of};
 ghost use Rattle.lethe_run.specs.declared.reply.Reply.TheVariants as reply;
 ghost use Rattle.lethe_run.specs.Replies.{IsOfChange, IsOfTick, refusal_of, reply_of, tick_reply_of, unread_of};
@@ -42,7 +42,7 @@ pub(crate) fn answer<D: Disk>(
     ensures told { MatchResult result
         (λ reply. IsTold D.ports_fail (D.faults engine.old.core.disk) (D.faults engine.new.core.disk) act (standing_of (view_of engine.old.core) (slots_of (view_of engine.old.core) slots.old.held.items))
         reply (standing_of (view_of engine.new.core) (slots_of (view_of engine.new.core) slots.new.held.items)))
-        (λ why. standing_of (view_of engine.new.core) (slots_of (view_of engine.new.core) slots.new.held.items) ≡ standing_of (view_of engine.old.core) (slots_of (view_of engine.old.core) slots.old.held.items)) }
+        (λ why. IsLater (standing_of (view_of engine.old.core) (slots_of (view_of engine.old.core) slots.old.held.items)) (standing_of (view_of engine.new.core) (slots_of (view_of engine.new.core) slots.new.held.items))) }
     ensures served { D.tells → (begin : Start) (from : Point) (h : History) (caller : ℕ)
         → IsOn begin from h (view_of engine.old.core) → AreShown h slots.old.held.items
         → MatchResult result

@@ -188,6 +188,7 @@ fn read_all<S: Source>(alloc: Global, source: &mut S) -> Result<Vec<u8>, ReadRef
 fn open_store<D: Disk>(alloc: Global, disk: D, config: &Config) -> Result<Engine<D>, OpenRefused<D>>
     ensures sound { IfOk result (λ engine. IsSound D.tells (view_of engine.core)) }
     ensures runs { IfOk result (λ engine. engine.core.state.stopped ≡ None) }
+    ensures config_is { IfOk result (λ engine. engine.core.state.manifest.config ≡ config.now) }
     ensures rounds { IfOk result (λ engine. engine.core.begun.rounds ≡ 0) }
     // No pin was made.
     ensures pins { IfOk result (λ engine. engine.core.pins ≡ record { pins = []; made = 0 }) }

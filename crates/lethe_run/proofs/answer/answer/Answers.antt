@@ -12,20 +12,21 @@ use Rattle.lethe_read.specs.Refusals.{IsReadRefusal}
 use Rattle.lethe_engine.specs.Reads.{listed}
 use Rattle.lethe_script.specs.Slots.{held_behind}
 use Rattle.lethe_script.specs.declared.order.Act.TheVariants as acts
+use Rattle.lethe_run.specs.declared.reply.Reply.{Reply}
 use Rattle.lethe_run.specs.declared.reply.Reply.TheVariants as reply
 use Rattle.lethe_run.specs.Anywhere.{IsTold, standing_of}
 use Rattle.lethe_run.specs.Carried.{Whole}
 use Rattle.lethe_run.specs.Holding.{held_in, slots_of}
 use Rattle.lethe_run.specs.Replies.{reply_of, tick_reply_of, unread_of}
 use Rattle.lethe_run.specs.Serving.{IsAnswered, opened_in}
-use Rattle.lethe_run.proofs.Anywhere.{Tells, change_tells, unread_tells}
+use Rattle.lethe_run.proofs.Anywhere.{Tells, change_tells, match_later, unread_tells}
 use Rattle.lethe_run.proofs.Holding.{behind_held, counted, finds_free, finds_held, on_ok, pin_at, same_holds, same_slots, shown_at, ten_of}
 use Rattle.lethe_run.proofs.Looks.{looked_up, reads, read_answer, stat_answer, unread}
 use Rattle.lethe_run.proofs.Outcomes.{Outcome, ok_of, err_of, or_same}
 use Rattle.lethe_run.proofs.Seen.{seen_here}
 use Rattle.lethe_run.proofs.Shorts.{few_frozen}
 use Rattle.lethe_run.proofs.Steps.{changes}
-use Rattle.lethe_run.proofs.Ticking.{all_pass, of_tick, tick_tells, ticks}
+use Rattle.lethe_run.proofs.Ticking.{all_pass, forward_so, of_tick, tick_tells, ticks}
 use Rattle.lethe_run.proofs.answer.answer.Goals as goal
 
 pub returns-in-Put-clause-served : goal.returns-in-Put-clause-served
@@ -54,7 +55,7 @@ returns-in-Put-clause-told g c =
     let kept = same_slots held old new c.put.ensures.pins in
     subst (λ r. Tells Ports c.args.act r old before new behind) (sym c.changed.ensures)
     (subst (λ a. Tells Ports a (reply_of c.put.result) old before new behind) (sym c.in-Put.is)
-    (change_tells g.D.Disk.tells Ports act call refl refl old new before behind kept (g.D.Disk.port_faults c.args.port.now) (g.D.Disk.port_faults c.put.new.port) c.put.result c.put.ensures.answers c.put.ensures.place c.put.ensures.why
+    (change_tells g.D.Disk.tells Ports act call refl refl old new before behind (few_frozen g.D.Disk.tells old c.requires.sound) kept (g.D.Disk.port_faults c.args.port.now) (g.D.Disk.port_faults c.put.new.port) c.put.result c.put.ensures.answers c.put.ensures.place c.put.ensures.why
     (λ at was. (c.put.ensures.stopped at was).0)))
 
 pub returns-in-Put-clause-pins : goal.returns-in-Put-clause-pins
@@ -95,7 +96,7 @@ returns-in-Delete-clause-told g c =
     let kept = same_slots held old new c.delete.ensures.pins in
     subst (λ r. Tells Ports c.args.act r old before new behind) (sym c.changed-in-Delete.ensures)
     (subst (λ a. Tells Ports a (reply_of c.delete.result) old before new behind) (sym c.in-Delete.is)
-    (change_tells g.D.Disk.tells Ports act call refl refl old new before behind kept (g.D.Disk.port_faults c.args.port.now) (g.D.Disk.port_faults c.delete.new.port) c.delete.result c.delete.ensures.answers c.delete.ensures.place c.delete.ensures.why
+    (change_tells g.D.Disk.tells Ports act call refl refl old new before behind (few_frozen g.D.Disk.tells old c.requires.sound) kept (g.D.Disk.port_faults c.args.port.now) (g.D.Disk.port_faults c.delete.new.port) c.delete.result c.delete.ensures.answers c.delete.ensures.place c.delete.ensures.why
     (λ at was. (c.delete.ensures.stopped at was).0)))
 
 pub returns-in-Delete-clause-pins : goal.returns-in-Delete-clause-pins
@@ -136,7 +137,7 @@ returns-in-Erase-clause-told g c =
     let kept = same_slots held old new c.erase.ensures.pins in
     subst (λ r. Tells Ports c.args.act r old before new behind) (sym c.changed-in-Erase.ensures)
     (subst (λ a. Tells Ports a (reply_of c.erase.result) old before new behind) (sym c.in-Erase.is)
-    (change_tells g.D.Disk.tells Ports act call refl refl old new before behind kept (g.D.Disk.port_faults c.args.port.now) (g.D.Disk.port_faults c.erase.new.port) c.erase.result c.erase.ensures.answers c.erase.ensures.place c.erase.ensures.why
+    (change_tells g.D.Disk.tells Ports act call refl refl old new before behind (few_frozen g.D.Disk.tells old c.requires.sound) kept (g.D.Disk.port_faults c.args.port.now) (g.D.Disk.port_faults c.erase.new.port) c.erase.result c.erase.ensures.answers c.erase.ensures.place c.erase.ensures.why
     (λ at was. (c.erase.ensures.stopped at was).0)))
 
 pub returns-in-Erase-clause-pins : goal.returns-in-Erase-clause-pins
@@ -177,7 +178,7 @@ returns-in-Ok-clause-told g c =
     let view = view_of c.args.engine.now.core in
     let slots = slots_of view c.args.slots.now.held.items in
     subst (λ act. IsTold g.D.Disk.ports_fail view.faults view.faults act (standing_of view slots) (reply.Got c.count.result c.in-Ok.held) (standing_of view slots)) (sym c.in-Get.is)
-    (((c.in-Get.key, refl), c.count.ensures, refl), refl)
+    (((c.in-Get.key, refl), c.count.ensures, refl), refl, omega arith)
 
 pub returns-in-Get-clause-told : goal.returns-in-Get-clause-told
 returns-in-Get-clause-told g c =
@@ -218,7 +219,7 @@ returns-in-Ok-scan-clause-told g c =
     let view = view_of c.args.engine.now.core in
     let slots = slots_of view c.args.slots.now.held.items in
     subst (λ act. IsTold g.D.Disk.ports_fail view.faults view.faults act (standing_of view slots) (reply.Scanned c.count-in-Ok-scan.result c.of.result) (standing_of view slots)) (sym c.in-Scan.is)
-    (((c.in-Scan.lo, c.in-Scan.hi, refl), c.count-in-Ok-scan.ensures, refl), refl)
+    (((c.in-Scan.lo, c.in-Scan.hi, refl), c.count-in-Ok-scan.ensures, refl), refl, omega arith)
 
 pub returns-in-Scan-clause-told : goal.returns-in-Scan-clause-told
 returns-in-Scan-clause-told g c =
@@ -265,7 +266,7 @@ returns-in-Stat-clause-told g c =
     let view = view_of c.args.engine.now.core in
     let slots = slots_of view c.args.slots.now.held.items in
     subst (λ act. IsTold g.D.Disk.ports_fail view.faults view.faults act (standing_of view slots) (reply.Counted c.count-in-Stat.result c.stat.result) (standing_of view slots)) (sym c.in-Stat.is)
-    ((refl, c.count-in-Stat.ensures, refl), (c.stat.ensures.pins ∙ counted view slots c.requires.pins, refl))
+    ((refl, c.count-in-Stat.ensures, c.stat.ensures.clock, refl), (c.stat.ensures.pins ∙ counted view slots c.requires.pins, refl), omega arith)
 
 pub returns-in-Tick-clause-served : goal.returns-in-Tick-clause-served
 returns-in-Tick-clause-served g c = λ told begin from h caller on shown.
@@ -297,7 +298,9 @@ returns-in-Tick-clause-told g c =
     (tick_tells to old new g.D.Disk.tells Ports c.count-point.result c.count-point.ensures before behind kept c.requires.pins c.requires.sound.pins (g.D.Disk.port_faults c.args.port.now) (g.D.Disk.port_faults c.tick.new.port) c.tick.result
     (all_pass to old new c.requires.sound.pins c.requires.sound.writable.count c.requires.rounds c.tick.result (λ at was. (c.tick.ensures.stopped at was).0) (λ runs ahead. (c.tick.ensures.backwards runs ahead).0)
     (λ runs forward full. (c.tick.ensures.exhausted runs forward full).0) (λ may pin limit first reached. (c.tick.ensures.pinned may pin limit first reached).0))
-    c.tick.ensures.answers c.tick.ensures.place c.tick.ensures.why (λ at was. (c.tick.ensures.stopped at was).0)))
+    (forward_so to old new c.tick.result (λ at was. (c.tick.ensures.stopped at was).0) (λ runs ahead. (c.tick.ensures.backwards runs ahead).0)) c.tick.ensures.due _ c.tick.ensures.certificate
+    c.tick.ensures.answers c.tick.ensures.place c.requires.rounds (few_frozen g.D.Disk.tells new c.tick.ensures.answers.sound) (λ runs ahead. λ i. view_of ((c.tick.ensures.backwards runs ahead).1 i).core)
+    (λ may pin limit first reached. λ i. view_of ((c.tick.ensures.pinned may pin limit first reached).1 i).core) c.tick.ensures.why (λ at was. (c.tick.ensures.stopped at was).0)))
 
 pub returns-in-Tick-clause-pins : goal.returns-in-Tick-clause-pins
 returns-in-Tick-clause-pins g c =
@@ -327,7 +330,12 @@ pub pin-requires-clause-free : goal.pin-requires-clause-free
 pin-requires-clause-free g c κs within = finds_free c.args.slots.now.held.items c.in-Pin.slot _ (subst (λ act. IsSome (held_behind act (held_in c.args.slots.now.held.items))) c.in-Pin.is c.requires.slotted)
 
 pub returns-in-Pin-clause-told : goal.returns-in-Pin-clause-told
-returns-in-Pin-clause-told g c = rw c.in-Pin.is c.pin.ensures.told
+returns-in-Pin-clause-told g c =
+    let old = view_of c.args.engine.now.core in
+    let new = view_of c.pin.new.engine.core in
+    let s = standing_of old (slots_of old c.args.slots.now.held.items) in
+    let t = standing_of new (slots_of new c.pin.new.slots.held.items) in
+    rw c.in-Pin.is (match_later (λ reply. IsTold g.D.Disk.ports_fail old.faults new.faults (acts.Pin c.in-Pin.slot) s reply t) c.pin.result s t c.pin.ensures.told)
 
 pub returns-in-Pin-clause-served : goal.returns-in-Pin-clause-served
 returns-in-Pin-clause-served g c = λ told begin from h caller on shown. rw c.in-Pin.is (c.pin.ensures.served told begin from h caller on)
@@ -348,7 +356,8 @@ returns-in-PinGet-clause-told g c =
     let slots = slots_of view held in
     let s = standing_of view slots in
     let told = c.pin_get.ensures.told view.faults view.faults s c.in-PinGet.slot (pin_at held view c.in-PinGet.slot (Some c.snapshot.result.now) c.snapshot.ensures.held) in
-    rw c.in-PinGet.is (or_same (λ reply. IsTold g.D.Disk.ports_fail view.faults view.faults (acts.PinGet c.in-PinGet.slot c.in-PinGet.key) s reply s) c.pin_get.result s told)
+    let Is = λ (reply : Reply). IsTold g.D.Disk.ports_fail view.faults view.faults (acts.PinGet c.in-PinGet.slot c.in-PinGet.key) s reply s in
+    rw c.in-PinGet.is (match_later Is c.pin_get.result s s (or_same Is c.pin_get.result s told))
 
 pub returns-in-PinGet-clause-served : goal.returns-in-PinGet-clause-served
 returns-in-PinGet-clause-served g c = λ told begin from h caller on shown.
@@ -378,7 +387,8 @@ returns-in-PinScan-clause-told g c =
     let slots = slots_of view held in
     let s = standing_of view slots in
     let told = c.pin_scan.ensures.told view.faults view.faults s c.in-PinScan.slot (pin_at held view c.in-PinScan.slot (Some c.snapshot-in-PinScan.result.now) c.snapshot-in-PinScan.ensures.held) in
-    rw c.in-PinScan.is (or_same (λ reply. IsTold g.D.Disk.ports_fail view.faults view.faults (acts.PinScan c.in-PinScan.slot c.in-PinScan.lo c.in-PinScan.hi) s reply s) c.pin_scan.result s told)
+    let Is = λ (reply : Reply). IsTold g.D.Disk.ports_fail view.faults view.faults (acts.PinScan c.in-PinScan.slot c.in-PinScan.lo c.in-PinScan.hi) s reply s in
+    rw c.in-PinScan.is (match_later Is c.pin_scan.result s s (or_same Is c.pin_scan.result s told))
 
 pub returns-in-PinScan-clause-served : goal.returns-in-PinScan-clause-served
 returns-in-PinScan-clause-served g c = λ told begin from h caller on shown.

@@ -26,7 +26,7 @@ returns-in-Ok-clause-told g c =
     let left = c.hold.new.self.held.items in
     let snapshot = c.in-Ok.snapshot in
     let is = c.in-Ok.ensures in
-    pin_told old new (λ i. (is.same i).core.state) g.D.Disk.ports_fail (slots_of old held) (slots_of new left) c.args.slot.now (pin_of snapshot) c.point-point.result c.number-number.result c.limit-limit.result
+    pin_told old new (λ i. (is.same i).core.state) (λ i. (view_of (is.same i).core).levels) g.D.Disk.ports_fail (slots_of old held) (slots_of new left) c.args.slot.now (pin_of snapshot) c.point-point.result c.number-number.result c.limit-limit.result
     c.point-point.ensures c.number-number.ensures c.limit-limit.ensures is.point is.number (pin_at held old c.args.slot.now None c.requires.free)
     (slots_more held left c.args.slot.now old new c.requires.pins c.hold.ensures.within snapshot c.hold.ensures.held c.requires.free is.pinned)
 

@@ -14,7 +14,7 @@ use Rattle.lethe_run.proofs.Pinned.{slot_answer, slot_unread}
 use Rattle.lethe_run.proofs.pinning.pin_get.Goals as goal
 
 pub returns-in-Ok-clause-told : goal.returns-in-Ok-clause-told
-returns-in-Ok-clause-told g c = λ from upto s slot there. (refl, (slot, c.args.key.now, refl, (pin_of c.args.snapshot.now, there, sym c.number.ensures, sym c.point.ensures), refl))
+returns-in-Ok-clause-told g c = λ from upto s slot there. (refl, (slot, c.args.key.now, refl, (pin_of c.args.snapshot.now, there, sym c.number.ensures, sym c.point.ensures), refl), omega arith)
 
 pub returns-in-Ok-clause-served : goal.returns-in-Ok-clause-served
 returns-in-Ok-clause-served g c = λ told begin h caller slot faults moment shown.

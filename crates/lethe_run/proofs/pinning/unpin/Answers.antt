@@ -22,7 +22,7 @@ returns-clause-told g c =
     let is = c.release.ensures in
     let state : new.state ≡ old.state = λ i. (is.same i).core.state in
     let same : new ≡ record old { pins = record old.pins { pins = without snapshot.pin.number old.pins.pins } } = λ i. view_of (is.same i).core in
-    unpin_told old new state g.D.Disk.ports_fail (slots_of old held) (slots_of new left) slot (pin_of snapshot) c.count.result c.number-number.result (c.count.ensures ∙ ap (λ (state : State). state.count) state) c.number-number.ensures
+    unpin_told old new state (λ i. (view_of (is.same i).core).levels) g.D.Disk.ports_fail (slots_of old held) (slots_of new left) slot (pin_of snapshot) c.count.result c.number-number.result (c.count.ensures ∙ ap (λ (state : State). state.count) state) c.number-number.ensures
     (pin_at held old slot (Some snapshot) c.take-snapshot.ensures.was)
     (slots_fewer held left slot old new c.requires.pins c.take-snapshot.ensures.within snapshot c.take-snapshot.ensures.free c.take-snapshot.ensures.was c.requires.sound.pins same)
 

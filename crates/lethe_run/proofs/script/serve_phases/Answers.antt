@@ -202,7 +202,7 @@ overflow_add-printed g c =
     let are : c.args.phases ≡ c.loop-orders.yielded ++ c.in-Some.orders ∷ rest =
     taken_next c.args.phases c.into_iter-orders-iterator.result c.loop-orders.yielded c.loop-orders.orders-iterator c.in-Some.orders rest (c.into_iter-orders-iterator.ensures.into_iter_gives.0 ∙ c.into_vec-orders-items.ensures) c.loop-orders.yielded_by c.in-Some.ensures.steps.0 in
     let fit =
-      lines_fit g.D.Disk.ports_fail mid.faults new.faults c.args.phases c.loop-orders.yielded rest c.in-Some.orders served.0 served.1 (standing_of mid (slots_of mid c.loop-orders.slots.held.items)) c.serve_phase-served.result.lines.items
-      (standing_of new (slots_of new c.serve_phase-served.new.slots.held.items)) c.loop-orders.printed c.args.engine.core.begun.rounds max_place are (sym c.into_vec.ensures ∙ served.2) served.4 c.loop-orders.invariant.printed c.requires.rounds in
+    lines_fit g.D.Disk.ports_fail mid.faults new.faults c.args.phases c.loop-orders.yielded rest c.in-Some.orders served.0 served.1 (standing_of mid (slots_of mid c.loop-orders.slots.held.items)) c.serve_phase-served.result.lines.items
+    (standing_of new (slots_of new c.serve_phase-served.new.slots.held.items)) c.loop-orders.printed c.args.engine.core.begun.rounds max_place are (sym c.into_vec.ensures ∙ served.2) served.4 c.loop-orders.invariant.printed c.requires.rounds in
     let size = c.len.ensures in
     omega (arith, fit, size)

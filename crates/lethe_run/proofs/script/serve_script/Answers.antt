@@ -19,7 +19,7 @@ pub returns-in-Ok-new-clause-ends : goal.returns-in-Ok-new-clause-ends
 returns-in-Ok-new-clause-ends g c =
     let result = c.serve_phases.result in
     ends_idle g.D.Disk.tells g.D.Disk.ports_fail (view_of c.args.engine.core) (view_of c.new_port.new.self.core) c.new_port.ensures.idle (λ told config opened h before. c.in-Ok.ensures.answers.stands told config opened h before 0) (g.D.Disk.seen result.1) (g.D.Disk.faults result.1)
-    c.new_port.ensures.same.0 c.new_port.ensures.faults (g.K.Sink.taken c.args.sink.now) (g.K.Sink.taken c.serve_phases.new.sink) (Rose (g.K.Sink.faults c.args.sink.now) (g.K.Sink.faults c.serve_phases.new.sink)) c.args.phases result.0 c.serve_phases.ensures.ends
+    c.new_port.ensures.same.0 (λ i. (view_of (record c.args.engine.core { version = c.new_port.ensures.same.1 i })).levels) c.new_port.ensures.faults (g.K.Sink.taken c.args.sink.now) (g.K.Sink.taken c.serve_phases.new.sink) (Rose (g.K.Sink.faults c.args.sink.now) (g.K.Sink.faults c.serve_phases.new.sink)) c.args.phases result.0 c.serve_phases.ensures.ends
 
 pub returns-in-Err-new-clause-ends : goal.returns-in-Err-new-clause-ends
 returns-in-Err-new-clause-ends g c =

@@ -39,7 +39,7 @@ returns-in-Ok-open_store g c =
     let laws = g.met.D.Disk g.world.𝓛 g.world.𝓜 g.world.𝓡 ((λ s x. x), (λ x. x), (λ x. x), λ x. x) in
     script_ended _ c.in-Some.config (sym c.in-Some.ensures) c.in-Ok-read_script.script.phases
     (λ P p. on_script (g.S.Source.left c.args.source.now) c.in-Ok.bytes.items c.in-Ok-read_script.script.phases P c.in-Ok.ensures.ok (ap script_of (sym c.deref.ensures.value) ∙ c.in-Ok-read_script.ensures.script) p)
-    (view_of c.in-Ok-open_store.engine.core) c.in-Ok-open_store.ensures.faults c.in-Ok-open_store.ensures.runs c.in-Ok-open_store.ensures.resumed c.in-Ok-open_store.ensures.any_moment c.in-Ok-open_store.ensures.exact
+    (view_of c.in-Ok-open_store.engine.core) c.in-Ok-open_store.ensures.faults c.in-Ok-open_store.ensures.runs c.in-Ok-open_store.ensures.config_is c.in-Ok-open_store.ensures.resumed c.in-Ok-open_store.ensures.any_moment c.in-Ok-open_store.ensures.exact
     (λ told. laws.itself told c.args.disk) c.in-Ok-open_store.ensures.pace
     c.serve_script.result.0 c.serve_script.ensures.ends
 
