@@ -28,7 +28,7 @@ use Rattle.lethe_run.specs.Ends.{Run, Asks, IsCommand, IsNoCommand, IsUnused, On
 use Rattle.lethe_run.specs.Printed.{bad_words, bad_line, open_line}
 use Rattle.lethe_run.specs.Scripts.{IsToldFrom, ScriptEnds, Serves}
 use Rattle.lethe_run.specs.Serving.{IsOn, IsCarried, Point}
-use Rattle.lethe_run.specs.Slots.{no_slots}
+use Rattle.lethe_run.specs.Pins.{no_pins, pins_of}
 use Rattle.lethe_run.specs.Reasons.{IsShownOf, IsToldOf, IsWhy, Says, status_of}
 use Rattle.lethe_run.specs.Status.{EndsWith, status_for}
 use Rattle.lethe_run.specs.declared.reason.Reason.{Reason}
@@ -148,7 +148,7 @@ ends_so run (reason.Answer line) e = (e.0, e.1, inl e.2)
 -- A script that was carried out
 
 module _ (run : Run) (config : Fields) (asks : Asks run config) (phases : List (List Order)) (script : (P : List (List Order) → Type 0) → P phases → OnScript run P) (mid : View) (up : run.faults_before ≤ mid.faults)
-    (runs : mid.state.stopped ≡ None) (config_is : mid.state.manifest.config ≡ config)
+    (runs : mid.state.stopped ≡ None) (config_is : mid.state.manifest.config ≡ config) (unpinned : pins_of mid ≡ no_pins)
     (resumed : run.Tells → (kept : Fields) (h : History) (change : Option Change) → IsLeft kept run.start h change → IsResumed config h change run.start mid)
     (moments : run.Tells → (kept : Fields) (h : History) (change : Option Change) → IsLeft kept run.start h change → Goes (IsKeptInOpening kept config h change run.start.directory) run.start mid.disk)
     (sound : IsSoundFor run config) (itself : run.Tells → Image run.start run.start.directory)
@@ -172,7 +172,7 @@ module _ (run : Run) (config : Fields) (asks : Asks run config) (phases : List (
 
   carried_out : run.Tells → (kept : Fields) (left : History) (change : Option Change) (r : IsResumed config left change run.start mid) (next : ℕ) → IsNextNumber run.start.directory next → (front : List (List Order)) (lines : List (List Line))
       → Goes (IsKeptInOpening kept config left change run.start.directory) run.start mid.disk → IsCarried (course_of run config next) (begin_at next) (point left change r) front lines mid.disk run.finish
-      → IsCarriedOut config (course_of run config next) run.start run.finish kept left change front lines
+      → IsCarriedOut config (course_of run config next) run.start run.finish kept left change front lines lines
   carried_out told kept left change r next is front lines opening c = record {
     opened = r.history;
     either = r.either;
@@ -206,18 +206,20 @@ module _ (run : Run) (config : Fields) (asks : Asks run config) (phases : List (
     ];
   }
 
-  plausible : (front : List (List Order)) (lines : List (List Line)) → IsToldFrom run.PortsFail mid run.faults front lines → IsPlausible run.PortsFail config run.faults_before run.faults front lines
+  plausible : (front : List (List Order)) (lines : List (List Line)) → IsToldFrom run.PortsFail mid run.faults front lines → IsPlausible run.PortsFail config run.faults_before run.faults front lines lines
   plausible front lines told = record {
-    opened = standing_of mid no_slots;
+    opened = standing_of mid;
     threshold = ap (λ (fields : Fields). fields.threshold) config_is;
     runs = runs;
-    unpinned = refl;
-    end = told.0;
-    told = through_wider run.PortsFail mid.faults run.faults run.faults_before run.faults up (omega arith) front (standing_of mid no_slots) lines told.0 told.1;
+    unpinned = unpinned;
+    end = told.0.0;
+    told = through_wider run.PortsFail mid.faults run.faults run.faults_before run.faults up (omega arith) front (standing_of mid) lines lines told.0.0 told.0.1;
+    slots = told.1;
   }
 
   carries : (front : List (List Order)) (lines : List (List Line)) → IsToldFrom run.PortsFail mid run.faults front lines → Serves run.Tells run.PortsFail mid run.finish run.faults front lines → Carries run config front lines
   carries front lines told served = record {
+    turned = lines;
     told = plausible front lines told;
     left = λ told kept left change is next drawn.
         let r = resumed told kept left change is in

@@ -1,10 +1,16 @@
 -- How a script ends, by what became of its phases.
-use Rattle.std.proofs.Common.{◌≡◌, ◌≤◌, inl, inr, ℕ, suc, Bool, true, List, [], ◌∷◌, ◌++◌, length, take, slice_get, Option, Some, None, refl, sym, ap, ◌∙◌, subst, arith, append-nil}
+use Rattle.std.proofs.Common.{◌≡◌, ◌≤◌, inl, inr, ℕ, suc, Bool, true, List, [], ◌∷◌, ◌++◌, length, map, take, slice_get, Option, Some, None, refl, sym, ap, ◌∙◌, subst, arith, append-nil}
+use Rattle.std.specs.Prelude.{filter}
+use Rattle.std.specs.List.{All as AllOf}
+use Rattle.std.specs.List.{flat_map}
 use Rattle.std.specs.Io.KnownBytes.{Appends}
+use Rattle.std.proofs.lemmas.List.Elements.{filter-append}
 use Rattle.lethe_base.specs.Keys.{Bytes}
 use Rattle.lethe_base.specs.History.{History}
 use Rattle.lethe_base.specs.declared.config.Fields.{Fields}
 use Rattle.lethe_disk.specs.Disk.{Image, IsIdle, Seen}
+use Rattle.lethe_disk.specs.declared.disk.Disk.{Ghosts}
+use Rattle.lethe_snapshot.specs.declared.snapshot.Snapshot.{Snapshot}
 use Rattle.lethe_engine.specs.StandsFor.{Opened, StandsSince}
 use Rattle.lethe_core.specs.View.{View}
 use Rattle.lethe_script.specs.declared.order.Order.{Order}
@@ -13,17 +19,24 @@ use Rattle.lethe_run.specs.declared.reply.Line.{Line}
 use Rattle.lethe_run.specs.declared.reason.Reason.{Reason}
 use Rattle.lethe_run.specs.declared.reason.Reason.TheVariants.{Nothing, Words, Source, Sink, NotOpened, NoMemory, Answer}
 use Rattle.lethe_run.specs.declared.reason.Reason.TheVariants as reason
-use Rattle.lethe_run.specs.Anywhere.{AreTold, AreToldThrough, standing_of}
+use Rattle.lethe_run.specs.Anywhere.{AreTold, AreToldThrough, IsPhaseTold, standing_of}
+use Rattle.lethe_run.specs.Callers.{AreAll, AreFronts, IsPhaseOfAll}
 use Rattle.lethe_run.specs.Ends.{IsBegun}
+use Rattle.lethe_run.specs.Holding.{AreShown, slots_for}
 use Rattle.lethe_run.specs.Printed.{lines_text}
 use Rattle.lethe_run.specs.Refusals.{IsFirstOr, all_of}
 use Rattle.lethe_run.specs.Scripts.{All, Behind, Inside, IsToldFrom, Serves, ScriptEnds, IsCutBy, reason_for}
 use Rattle.lethe_run.specs.Serving.{IsOn, IsPhase, Point, opened_in}
-use Rattle.lethe_run.specs.Slots.{Slots, no_slots}
-use Rattle.lethe_run.specs.Transcript.{Start, text_of}
+use Rattle.lethe_run.specs.Slots.{AreInSlots, Slots, no_slots}
+use Rattle.lethe_run.specs.Transcript.{Start, is_of, orders_by, printed, text_of}
 use Rattle.lethe_run.proofs.Anywhere.{as_many, stands_still, through_more}
+use Rattle.lethe_run.proofs.Callers.{by_append, told_callers}
 use Rattle.lethe_run.proofs.Images.{calls_then}
 use Rattle.lethe_run.proofs.Phases.{SoFar, front_text, so_far_start, so_far_more, carried}
+use Rattle.lethe_run.proofs.Pins.{same_pins}
+use Rattle.lethe_run.proofs.Refusals.{all_more}
+use Rattle.lethe_run.proofs.Staying.{in_slots_append}
+use Rattle.lethe_run.proofs.Slotted.{flat_more}
 
 get_behind : {X : Type 0} (front : List X) (x : X) (rest : List X) → slice_get (front ++ x ∷ rest) (length front) ≡ Some x
 get_behind [] x rest = refl
@@ -37,32 +50,47 @@ take_more : {X : Type 0} (front : List X) (x : X) (rest : List X) → take (suc 
 take_more [] x rest = refl
 take_more (y ∷ front) x rest = ap (λ l. y ∷ l) (take_more front x rest)
 
-pub part_whole : (orders items part rest : List Order) → items ≡ orders → items ≡ part ++ rest → rest ≡ [] → part ≡ orders
-part_whole orders items part rest is parts none = sym (append-nil part) ∙ ap (λ l. part ++ l) (sym none) ∙ sym parts ∙ is
+-- what serving a phase gave, and what was and is shown of the history, by callers what their slots held and hold
+pub record Phase (Tells Ports : Type 0) (now then : View) (between behind : ℕ → Slots) (Was Is : History → Type 0) (orders : List Order) (whole : Bool) (more : List Line) : Type 0 where
+  pub part : List Order
+  pub fronts : AreFronts orders part
+  pub all : whole ≡ true → AreAll orders part
+  pub told : AreTold Ports now.faults then.faults part (standing_of now) more (standing_of then)
+  pub slots : (caller : ℕ) → AreInSlots (orders_by caller part) (between caller) (filter (is_of caller) more) (behind caller)
+  pub served : Tells → (begin : Start) (from : Point) (start : History) → IsOn begin from start now → Was start → (h : History) × IsPhase Ports begin start h part more now then × Is h
 
--- what serving a phase gave, and what was and is shown of the history
-abbrev pub Phase : Type 0 → Type 0 → View → View → Slots → Slots → (History → Type 0) → (History → Type 0) → List Order → Bool → List Line → Type 0
-Phase Tells Ports now then between behind Was Is orders whole more = (part : List Order) × (rest : List Order) × (orders ≡ part ++ rest) × ((whole ≡ true) → rest ≡ [])
-    × AreTold Ports now.faults then.faults part (standing_of now between) more (standing_of then behind)
-    × (Tells → (begin : Start) (from : Point) (start : History) → IsOn begin from start now → Was start → (h : History) × IsPhase Ports begin start h part more now then × Is h)
+module _ {D Page Port : Type 0} {kind : Ghosts D Page Port} (Tells Ports : Type 0) (now then : View) (was held : List (List (Option (Snapshot D Page Port kind)))) where
+  pub served_phase : (items orders : List Order) (whole : Bool) (more : List Line) → items ≡ orders
+      → (part : List Order) × AreFronts items part × (whole ≡ true → AreAll items part) × IsPhaseOfAll Tells Ports part more now was then held
+      → Phase Tells Ports now then (λ caller. slots_for caller was) (λ caller. slots_for caller held) (λ h. AllOf (AreShown h) was) (λ h. AllOf (AreShown h) held) orders whole more
+  served_phase items orders whole more is served = record {
+    part = served.0;
+    fronts = subst (λ orders. AreFronts orders served.0) is served.1;
+    all = λ whole. subst (λ orders. AreAll orders served.0) is (served.2 whole);
+    told = served.3.told;
+    slots = served.3.slots;
+    served = served.3.served;
+  }
 
 -- what the phases before gave
-pub record Before (Tells Ports : Type 0) (start now : View) (slots : Slots) (Shown : History → Type 0) (yielded : List (List Order)) (lines : List (List Line)) : Type 0 where
-  pub told : AreToldThrough Ports start.faults now.faults yielded (standing_of start no_slots) lines (standing_of now slots)
+pub record Before (Tells Ports : Type 0) (start now : View) (slots : ℕ → Slots) (Shown : History → Type 0) (yielded : List (List Order)) (lines : List (List Line)) : Type 0 where
+  pub told : AreToldThrough Ports start.faults now.faults yielded (standing_of start) lines lines (standing_of now)
+  pub slots_are : (caller : ℕ) → AreInSlots (orders_by caller (flat_map (λ orders. orders) yielded)) no_slots (filter (is_of caller) (all_of lines)) (slots caller)
   pub served : Tells → (begin : Start) (from : Point) → IsOn begin from from.history start → SoFar Ports begin from yielded lines start now Shown
 
-pub before_any : (Tells Ports : Type 0) (view : View) (slots : Slots) (Shown : History → Type 0) → slots ≡ no_slots → ((h : History) → Shown h) → Before Tells Ports view view slots Shown [] []
+pub before_any : (Tells Ports : Type 0) (view : View) (slots : ℕ → Slots) (Shown : History → Type 0) → ((caller : ℕ) → slots caller ≡ no_slots) → ((h : History) → Shown h) → Before Tells Ports view view slots Shown [] []
 before_any Tells Ports view slots Shown none shown = record {
-  told = λ i. standing_of view (none i);
+  told = refl;
+  slots_are = none;
   served = λ told begin from on. so_far_start Ports begin from view Shown on (shown from.history);
 }
 
-module _ (Tells Ports : Type 0) (start then : View) (itself : Tells → Image then.disk then.disk.directory) (behind : Slots) (Is : History → Type 0) where
+module _ (Tells Ports : Type 0) (start then : View) (itself : Tells → Image then.disk then.disk.directory) (behind : ℕ → Slots) (Is : History → Type 0) where
   serves : (phases : List (List Order)) (lines : List (List Line)) → Before Tells Ports start then behind Is phases lines → Serves Tells Ports start then.disk then.faults phases lines
   serves phases lines so_far told begin from on = carried Ports begin from phases lines start then Is (itself told) (so_far.served told begin from on)
 
   tells : (phases : List (List Order)) (lines : List (List Line)) → Before Tells Ports start then behind Is phases lines → IsToldFrom Ports start then.faults phases lines
-  tells phases lines so_far = (standing_of then behind, so_far.told)
+  tells phases lines so_far = ((standing_of then, so_far.told), λ caller. (behind caller, so_far.slots_are caller))
 
   -- all were answered
   all : (phases : List (List Order)) (lines : List (List Line)) (old new : Option Bytes) (refused : Option ℕ) → Before Tells Ports start then behind Is phases lines → Appends old new (text_of lines) → IsFirstOr (all_of lines) refused
@@ -75,27 +103,47 @@ module _ (Tells Ports : Type 0) (start then : View) (itself : Tells → Image th
   all_ends phases lines old new SinkRose (Some line) so_far written first = all phases lines old new (Some line) so_far written first
 
   -- some were, and of the next one a part
-  module _ (now : View) (between : Slots) (Was : History → Type 0) (up : start.faults ≤ now.faults) (later : now.faults ≤ then.faults) (phases yielded rest : List (List Order)) (orders : List Order) (are : phases ≡ yielded ++ orders ∷ rest) (lines : List (List Line)) (more : List Line) (whole : Bool)
+  module _ (now : View) (between : ℕ → Slots) (Was : History → Type 0) (up : start.faults ≤ now.faults) (later : now.faults ≤ then.faults) (phases yielded rest : List (List Order)) (orders : List Order) (are : phases ≡ yielded ++ orders ∷ rest) (lines : List (List Line)) (more : List Line) (whole : Bool)
       (so_far : Before Tells Ports start now between Was yielded lines) (phase : Phase Tells Ports now then between behind Was Is orders whole more) where
-    abbrev part : List Order
-    part = phase.0
+    -- these orders have those that were answered as their printed ones
+    module _ (asked : List Order) (is : phase.part ≡ printed asked) (same : (caller : ℕ) → orders_by caller phase.part ≡ orders_by caller asked) where
+      phase_is : IsPhaseTold Ports now.faults then.faults asked (standing_of now) more more (standing_of then)
+      phase_is = record {
+        callers = told_callers Ports now.faults then.faults phase.part (standing_of now) more (standing_of then) phase.told ∙ ap (map (λ (order : Order). order.caller)) is;
+        order = λ caller. refl;
+        asked = phase.part;
+        are = same;
+        told = phase.told;
+      }
 
-    begun_so_far : Before Tells Ports start then behind Is (yielded ++ part ∷ []) (lines ++ more ∷ [])
-    begun_so_far = record {
-      told = through_more Ports start now then no_slots between behind up later yielded lines part more so_far.told phase.4;
-      served = λ told begin from on.
-          let prior = so_far.served told begin from on in
-          let next = phase.5 told begin from prior.history prior.on prior.shown in
-          so_far_more Ports begin from next.0 yielded lines part more start now then Was Is later prior next.1 next.2;
-    }
+      slots_more : (caller : ℕ) → AreInSlots (orders_by caller (flat_map (λ orders. orders) (yielded ++ asked ∷ []))) no_slots (filter (is_of caller) (all_of (lines ++ more ∷ []))) (behind caller)
+      slots_more caller =
+          let orders_are = ap (orders_by caller) (flat_more yielded asked) ∙ by_append caller (flat_map (λ orders. orders) yielded) asked in
+          let lines_are = ap (filter (is_of caller)) (all_more lines more) ∙ filter-append (is_of caller) (all_of lines) more in
+          rw (orders_are, lines_are)
+          (in_slots_append (orders_by caller (flat_map (λ orders. orders) yielded)) (orders_by caller asked) no_slots (between caller) (behind caller) (filter (is_of caller) (all_of lines)) (filter (is_of caller) more)
+          (so_far.slots_are caller) (subst (λ os. AreInSlots os (between caller) (filter (is_of caller) more) (behind caller)) (same caller) (phase.slots caller)))
+
+      so_far_with : Before Tells Ports start then behind Is (yielded ++ asked ∷ []) (lines ++ more ∷ [])
+      so_far_with = record {
+        told = through_more Ports start now then up later yielded lines asked more so_far.told phase_is;
+        slots_are = slots_more;
+        served = λ told begin from on.
+            let prior = so_far.served told begin from on in
+            let next = phase.served told begin from prior.history prior.on prior.shown in
+            so_far_more Ports begin from next.0 yielded lines asked phase.part more start now then Was Is later is prior next.1 next.2;
+      }
+
+    begun_so_far : Before Tells Ports start then behind Is (yielded ++ phase.part ∷ []) (lines ++ more ∷ [])
+    begun_so_far = so_far_with phase.part (sym phase.fronts.printed) (λ caller. refl)
 
     pub next_so_far : whole ≡ true → Before Tells Ports start then behind Is (yielded ++ orders ∷ []) (lines ++ more ∷ [])
-    next_so_far is = subst (λ p. Before Tells Ports start then behind Is (yielded ++ p ∷ []) (lines ++ more ∷ [])) (part_whole orders orders part phase.1 refl phase.2 (phase.3 is)) begun_so_far
+    next_so_far is = let all = phase.all is in so_far_with orders all.is all.by
 
     stopped_behind : (old middle new : Option Bytes) → whole ≡ true → Appends old middle (text_of lines) → AppendsFront middle new (lines_text more) → Behind Tells Ports start then.disk then.faults old new phases
     stopped_behind old middle new is before last =
         let front : take (suc (length lines)) phases ≡ yielded ++ orders ∷ [] =
-        ap (λ n. take (suc n) phases) (as_many Ports start.faults now.faults yielded (standing_of start no_slots) lines (standing_of now between) so_far.told) ∙ ap (take (suc (length yielded))) are ∙ take_more yielded orders rest in
+        ap (λ n. take (suc n) phases) (as_many Ports start.faults now.faults yielded (standing_of start) lines lines (standing_of now) so_far.told) ∙ ap (take (suc (length yielded))) are ∙ take_more yielded orders rest in
         let next = subst (λ p. Before Tells Ports start then behind Is p (lines ++ more ∷ [])) (sym front) (next_so_far is) in
         record {
           before = lines;
@@ -105,22 +153,23 @@ module _ (Tells Ports : Type 0) (start then : View) (itself : Tells → Image th
           whole = (middle, before, last);
         }
 
-    begun : IsBegun phases (yielded ++ part ∷ [])
+    begun : IsBegun phases (yielded ++ phase.part ∷ [])
     begun = inr (record {
       count = length yielded;
-      part = part;
-      rest = phase.1;
-      there = ap (λ p. slice_get p (length yielded)) are ∙ get_behind yielded orders rest ∙ ap Some phase.2;
-      is = ap (λ l. l ++ part ∷ []) (sym (ap (take (length yielded)) are ∙ take_front yielded (orders ∷ rest)));
+      orders = orders;
+      part = phase.part;
+      there = ap (λ p. slice_get p (length yielded)) are ∙ get_behind yielded orders rest;
+      cut = phase.fronts.cut;
+      is = ap (λ l. l ++ phase.part ∷ []) (sym (ap (take (length yielded)) are ∙ take_front yielded (orders ∷ rest)));
     })
 
     inside : (old new : Option Bytes) → AppendsFront old new (text_of (lines ++ more ∷ [])) → Inside Tells Ports start then.disk then.faults old new phases
     inside old new written = record {
       lines = lines ++ more ∷ [];
-      front = yielded ++ part ∷ [];
+      front = yielded ++ phase.part ∷ [];
       begun = begun;
-      told = tells (yielded ++ part ∷ []) (lines ++ more ∷ []) begun_so_far;
-      served = serves (yielded ++ part ∷ []) (lines ++ more ∷ []) begun_so_far;
+      told = tells (yielded ++ phase.part ∷ []) (lines ++ more ∷ []) begun_so_far;
+      served = serves (yielded ++ phase.part ∷ []) (lines ++ more ∷ []) begun_so_far;
       written = written;
     }
 
@@ -166,12 +215,15 @@ module _ (Tells Ports : Type 0) (start mid : View) (idle : Tells → IsIdle star
           pace = c.pace;
         }
 
-    module _ (state : mid.state ≡ start.state) (levels : mid.levels ≡ start.levels) (faults : mid.faults ≡ start.faults) (old new : Option Bytes) where
+    module _ (state : mid.state ≡ start.state) (levels : mid.levels ≡ start.levels) (pins : mid.pins ≡ start.pins) (faults : mid.faults ≡ start.faults) (old new : Option Bytes) where
       told_idle : (phases : List (List Order)) (lines : List (List Line)) → IsToldFrom Ports mid now phases lines → IsToldFrom Ports start now phases lines
       told_idle phases lines told = (
-        told.0,
-        subst (λ s. AreToldThrough Ports start.faults now phases s lines told.0) (stands_still start mid no_slots no_slots state levels refl)
-            (subst (λ n. AreToldThrough Ports n now phases (standing_of mid no_slots) lines told.0) faults told.1),
+        (
+          told.0.0,
+          subst (λ s. AreToldThrough Ports start.faults now phases s lines lines told.0.0) (stands_still start mid state levels (same_pins start mid pins))
+              (subst (λ n. AreToldThrough Ports n now phases (standing_of mid) lines lines told.0.0) faults told.0.1),
+        ),
+        told.1,
       )
 
       all_idle : (phases : List (List Order)) (refused : Option ℕ) → All Tells Ports mid finish now old new phases refused → All Tells Ports start finish now old new phases refused
@@ -209,7 +261,7 @@ module _ (Tells Ports : Type 0) (start mid : View) (idle : Tells → IsIdle star
     lines = [];
     front = [];
     begun = inl refl;
-    told = (standing_of start no_slots, refl);
+    told = ((standing_of start, refl), λ caller. (no_slots, refl));
     served = serves_idle mid.disk mid.faults [] [] (λ told begin from on. carried Ports begin from [] [] mid mid (λ h. Unit {0}) (itself told) (so_far_start Ports begin from mid (λ h. Unit {0}) on tt));
     written = none;
   }

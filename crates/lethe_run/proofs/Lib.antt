@@ -13,7 +13,9 @@ pub mod Prepared
 pub mod Ticking
 pub mod Looks
 pub mod Pinned
-pub mod Slotted
+pub mod Staying
+mod Callers
+mod Slotted
 pub mod Runs
 pub mod Refusals
 pub mod Options

@@ -159,7 +159,7 @@ module _ (run : Run) where
           a.script.1,
           λ told kept left change l same numbers few room.
               let next = has_next kept l.now.0 run.start.directory l.now.2 in
-              absurd (no_refusal run config kept a.script.0 a.lines left change calm ports next.0 (few next.0 next.1) room a.is (a.script.2.left told kept left change l next.0 next.1)),
+              absurd (no_refusal run config kept a.script.0 a.lines a.script.2.turned left change calm ports next.0 (few next.0 next.1) room a.is (a.script.2.left told kept left change l next.0 next.1)),
         ));
         known = (5, lit< tt, refl);
       }

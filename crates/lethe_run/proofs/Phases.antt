@@ -18,12 +18,12 @@ use Rattle.lethe_wire.specs.Causes.{AppendsFront}
 use Rattle.lethe_run.specs.declared.reply.Line.{Line}
 use Rattle.lethe_run.specs.Printed.{lines_text}
 use Rattle.lethe_run.specs.Carried.{IsBorneOut, IsSeen, certificates_in, looks_in}
-use Rattle.lethe_run.specs.Serving.{Advances, IsBorneOn, IsOn, IsPhase, IsCarried, Point}
-use Rattle.lethe_run.specs.Transcript.{Course, Start, course, IsServed, AreServed, text_of}
+use Rattle.lethe_run.specs.Serving.{Advances, IsBorneOn, IsOn, IsPhase, IsCarried, IsServedInTurn, Point}
+use Rattle.lethe_run.specs.Transcript.{Course, Start, course, IsServed, AreServed, printed, text_of}
 use Rattle.lethe_run.proofs.Images.{still, leaves, has_config, is_clean}
 use Rattle.lethe_run.proofs.Lasting.{AreStaying, Stays, begins_now, bound_now, done_behind, done_within, seen_now, staying_lasting, staying_next}
 use Rattle.lethe_run.proofs.Seen.{all_seen_later}
-use Rattle.lethe_run.proofs.Serving.{advances_then, all_borne_later, served_later}
+use Rattle.lethe_run.proofs.Serving.{advances_then, all_borne_later, served_later, served_printed}
 
 -- what was written
 
@@ -67,7 +67,7 @@ AreSeen begin h view lines = All (IsSeen begin.config begin.moment h view.disk) 
 -- the phases so far, and what else is shown of the history that they made
 pub record SoFar (Ports : Type 0) (begin : Start) (from : Point) (phases : List (List Order)) (lines : List (List Line)) (start now : View) (Shown : History → Type 0) : Type 0 where
   pub history : History
-  pub served : AreServed (course Ports begin now.faults now.disk.moment) from.history phases lines history
+  pub served : AreServed (course Ports begin now.faults now.disk.moment) from.history phases lines lines history
   pub goes : Advances begin from.history history start now
   pub on : IsOn begin from history now
   pub lasting : AreStaying begin from.history history now from.moment lines
@@ -79,15 +79,15 @@ pub so_far_start : (Ports : Type 0) (begin : Start) (from : Point) (view : View)
 so_far_start Ports begin from view Shown on shown = record { history = from.history; served = refl; goes = still begin from.history view; on = on; lasting = on.stands.later; certified = All-nil (AreBorneOn begin from.history view); seen = All-nil (AreSeen begin from.history view); shown = shown }
 
 phases_more : (c : Course) (start middle h : History) (phases : List (List Order)) (lines : List (List Line)) (orders : List Order) (more : List Line)
-    → AreServed c start phases lines middle → IsServed c middle orders more h → AreServed c start (phases ++ orders ∷ []) (lines ++ more ∷ []) h
-phases_more c start middle h [] [] orders more served last = (h, subst (λ s. IsServed c s orders more h) served last, refl)
+    → AreServed c start phases lines lines middle → IsServed c middle orders more more h → AreServed c start (phases ++ orders ∷ []) (lines ++ more ∷ []) (lines ++ more ∷ []) h
+phases_more c start middle h [] [] orders more served last = (h, subst (λ s. IsServed c s orders more more h) served last, refl)
 phases_more c start middle h [] (l ∷ lines) orders more served last = absurd served
 phases_more c start middle h (p ∷ phases) [] orders more served last = absurd served
 phases_more c start middle h (p ∷ phases) (l ∷ lines) orders more served last = (served.0, served.1, phases_more c served.0 middle h phases lines orders more served.2 last)
 
 -- from the end of a phase on each crash has what its lines answer with `ok`
 stays_now : (Ports : Type 0) (begin : Start) (from : Point) (start h : History) (orders : List Order) (lines : List Line) (view : View) → IsOn begin from h view
-    → IsServed (course Ports begin view.faults view.disk.moment) start orders lines h → Stays begin from.history h view view.disk.moment lines
+    → IsServedInTurn (course Ports begin view.faults view.disk.moment) start orders lines h → Stays begin from.history h view view.disk.moment lines
 stays_now Ports begin from start h orders lines view on served = record {
   had = without_failed h;
   begins = begins_now begin from h view on;
@@ -95,15 +95,17 @@ stays_now Ports begin from start h orders lines view on served = record {
   places = done_within (record { history = h; course = course Ports begin view.faults view.disk.moment }) (length (without_failed h)) (bound_now begin from h view on) orders lines served.answered;
 }
 
-pub so_far_more : (Ports : Type 0) (begin : Start) (from : Point) (h : History) (phases : List (List Order)) (lines : List (List Line)) (part : List Order) (more : List Line) (start now then : View) (Was Is : History → Type 0) → now.faults ≤ then.faults
+pub so_far_more : (Ports : Type 0) (begin : Start) (from : Point) (h : History) (phases : List (List Order)) (lines : List (List Line)) (orders part : List Order) (more : List Line) (start now then : View) (Was Is : History → Type 0) → now.faults ≤ then.faults
+    → part ≡ printed orders
     → (so_far : SoFar Ports begin from phases lines start now Was) → IsPhase Ports begin so_far.history h part more now then → Is h
-    → SoFar Ports begin from (phases ++ part ∷ []) (lines ++ more ∷ []) start then Is
-so_far_more Ports begin from h phases lines part more start now then Was Is le so_far phase shown =
+    → SoFar Ports begin from (phases ++ orders ∷ []) (lines ++ more ∷ []) start then Is
+so_far_more Ports begin from h phases lines orders part more start now then Was Is le is so_far phase shown =
     let on = phase.goes.stands from so_far.on in
     record {
       history = h;
-      served = phases_more (course Ports begin then.faults then.disk.moment) from.history so_far.history h phases lines part more
-          (served_later Ports begin now.faults then.faults now.disk.moment then.disk.moment le phase.goes.calls.later from.history so_far.history phases lines so_far.served) phase.served;
+      served = phases_more (course Ports begin then.faults then.disk.moment) from.history so_far.history h phases lines orders more
+          (served_later Ports begin now.faults then.faults now.disk.moment then.disk.moment le phase.goes.calls.later from.history so_far.history phases lines lines so_far.served)
+          (served_printed (course Ports begin then.faults then.disk.moment) so_far.history h orders part more is phase.served);
       goes = advances_then begin from.history so_far.history h start now then so_far.goes phase.goes;
       on = on;
       lasting = staying_next begin from so_far.history h now then so_far.on phase.goes phase.served.begins more

@@ -13,6 +13,7 @@ use Rattle.lethe_read.specs.Refusals.{IsReadRefusal}
 use Rattle.lethe_disk.specs.declared.disk.Disk.{Ghosts}
 use Rattle.lethe_manifest.specs.declared.manifest.Manifest.{Manifest}
 use Rattle.lethe_snapshot.specs.declared.snapshot.Snapshot.{Snapshot}
+use Rattle.lethe_state.specs.Clock.{clock_of}
 use Rattle.lethe_stored.specs.Left.{without_failed}
 use Rattle.lethe_core.specs.Asked.{Serves, behind}
 use Rattle.lethe_core.specs.StandsNow.{StandsNow}
@@ -24,14 +25,14 @@ use Rattle.lethe_script.specs.declared.order.Act.{Act}
 use Rattle.lethe_script.specs.declared.order.Act.TheVariants as acts
 use Rattle.lethe_run.specs.declared.reply.Reply.{Reply}
 use Rattle.lethe_run.specs.declared.reply.Reply.TheVariants as reply
-use Rattle.lethe_run.specs.Anywhere.{IsTold, standing_of}
+use Rattle.lethe_run.specs.Anywhere.{IsTold, entries_of, standing_of}
 use Rattle.lethe_run.specs.Carried.{IsSeen, Limit, certificate_in, looked_in}
 use Rattle.lethe_run.specs.Holding.{IsShown}
 use Rattle.lethe_run.specs.Replies.{unread_of}
 use Rattle.lethe_run.specs.Serving.{Advances, IsAnswered, IsBorneOn, IsLookedUp, IsOn, Point, opened_in}
-use Rattle.lethe_run.specs.Slots.{Pin, Slots, pin_in, with_pin, without_pin}
+use Rattle.lethe_run.specs.Pins.{pins_of, with_pin, without_pin}
 use Rattle.lethe_run.specs.Transcript.{Answers, Course, Follows, IsAnswerAt, IsRead, Start, course}
-use Rattle.lethe_run.proofs.Anywhere.{next_still, stands_still}
+use Rattle.lethe_run.proofs.Anywhere.{next_still}
 use Rattle.lethe_run.proofs.Outcomes.{told_of}
 use Rattle.lethe_run.proofs.Seen.{seen_later}
 
@@ -98,20 +99,23 @@ slot_unread Ports begin faults moment h caller act is (refused.Cancelled begun n
 
 -- On any disk
 
--- nothing but the slots changes
+-- nothing but the pins changes
 module _ (old new : View) (state : new.state ≡ old.state) (levels : new.levels ≡ old.levels) where
-  pub slots_alone : (before behind : Slots) → standing_of new behind ≡ record (standing_of old before) { slots = behind }
-  slots_alone before behind = stands_still old new behind behind state levels refl
+  pub pins_alone : standing_of new ≡ record (standing_of old) { pins = pins_of new }
+  pins_alone = λ i. record {
+    count = (state i).count;
+    failed = (state i).stopped;
+    clock = clock_of (state i).manifest;
+    pins = pins_of new;
+    next = (state i).next;
+    entries = entries_of (levels i) (state i).manifest.files;
+  }
 
-  module _ (Ports : Type 0) (before behind : Slots) (slot : ℕ) (pin : Pin) where
-    pub pin_told : (point number limit : ℕ) → point ≡ pin.point → number ≡ pin.number → limit ≡ pin.limit → pin.point ≡ old.state.count → pin.number ≡ before.made + 1 → pin_in before slot ≡ None → behind ≡ with_pin slot pin before
-        → IsTold Ports old.faults new.faults (acts.Pin slot) (standing_of old before) (reply.Pinned point number limit) (standing_of new behind)
-    pin_told point number limit point_is number_is limit_is at next free is = (
-      ((slot, refl), point_is ∙ at, slots_alone before behind),
-      (slot, refl, free, number_is ∙ next, is ∙ (λ i. with_pin slot (record { number = sym number_is i; point = sym point_is i; limit = sym limit_is i }) before)),
-      next_still old new state,
-    )
+  module _ (Ports : Type 0) (slot : ℕ) where
+    pub pin_told : (point number limit : ℕ) → point ≡ old.state.count → number ≡ old.pins.made + 1 → pins_of new ≡ with_pin limit (pins_of old)
+        → IsTold Ports old.faults new.faults (acts.Pin slot) (standing_of old) (reply.Pinned point number limit) (standing_of new)
+    pin_told point number limit at next is = (((slot, refl), at, pins_alone), (next, is), next_still old new state)
 
-    pub unpin_told : (point number : ℕ) → point ≡ old.state.count → number ≡ pin.number → pin_in before slot ≡ Some pin → behind ≡ without_pin slot before
-        → IsTold Ports old.faults new.faults (acts.Unpin slot) (standing_of old before) (reply.Unpinned point number) (standing_of new behind)
-    unpin_told point number at number_is there is = ((at, slots_alone before behind), (slot, refl, pin, there, sym number_is, is), next_still old new state)
+    pub unpin_told : (point number : ℕ) → point ≡ old.state.count → pins_of new ≡ without_pin number (pins_of old)
+        → IsTold Ports old.faults new.faults (acts.Unpin slot) (standing_of old) (reply.Unpinned point number) (standing_of new)
+    unpin_told point number at is = ((at, pins_alone), is, next_still old new state)

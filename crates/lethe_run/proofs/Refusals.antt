@@ -103,19 +103,10 @@ one_refused lines number first =
     sym (any_of_all lines) ∙ ap (list_any is_refusal) first.are ∙ list_any-append is_refusal first.before (first.line ∷ first.behind)
     ∙ ap (λ b. b || list_any is_refusal (first.line ∷ first.behind)) first.none ∙ ap (λ b. b || list_any is_refusal first.behind) first.tells
 
--- as many lines as orders
-pub lines_many : (Ports : Type 0) (from upto : ℕ) (orders : List Order) (s : Standing) (lines : List Line) (t : Standing) → AreTold Ports from upto orders s lines t → length lines ≡ length orders
-lines_many Ports from upto [] s [] t told = refl
-lines_many Ports from upto [] s (l ∷ lines) t told = absurd told
-lines_many Ports from upto (order ∷ orders) s [] t told = absurd told
-lines_many Ports from upto (order ∷ orders) s (line.Answer caller r ∷ lines) t told = ap suc (lines_many Ports from upto orders told.1 lines t told.3)
-
 -- so their numbers stay within the limit of a run's rounds
-pub lines_fit : (Ports : Type 0) (from upto : ℕ) (phases yielded rest : List (List Order)) (orders part left : List Order) (s : Standing) (lines : List Line) (t : Standing) (printed begun most : ℕ) → phases ≡ yielded ++ orders ∷ rest
-    → orders ≡ part ++ left → AreTold Ports from upto part s lines t → printed ≡ sum_by length yielded → begun + sum_by length phases ≤ most → printed + length lines ≤ most
-lines_fit Ports from upto phases yielded rest orders part left s lines t printed begun most are parts told printed_is few =
+pub lines_fit : (phases yielded rest : List (List Order)) (orders : List Order) (lines : List Line) (printed begun most : ℕ) → phases ≡ yielded ++ orders ∷ rest → length lines ≤ length orders → printed ≤ sum_by length yielded
+    → begun + sum_by length phases ≤ most → printed + length lines ≤ most
+lines_fit phases yielded rest orders lines printed begun most are many printed_is few =
     let all = ap (sum_by (length {A = Order})) are ∙ sum_by-append (length {A = Order}) yielded (orders ∷ rest) in
     let first = sum_by-cons (length {A = Order}) orders rest in
-    let size = ap length parts ∙ length-append part left in
-    let many = lines_many Ports from upto part s lines t told in
-    omega (arith, all, first, size, many, printed_is, few)
+    omega (arith, all, first, many, printed_is, few)

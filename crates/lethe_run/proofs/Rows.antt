@@ -31,10 +31,12 @@ use Rattle.lethe_run.specs.Carried.{IsSeen, certificate_of, certificates_in, loo
 use Rattle.lethe_run.specs.Holding.{AreShown, slots_of}
 use Rattle.lethe_run.specs.Rows.{HasMade, HasServed, IsStretch, act_of, done_lines, orders_of, stopped_lines, unlined}
 use Rattle.lethe_run.specs.Serving.{Advances, IsAnswered, IsBorneOn, IsOn, IsPhase, Point, opened_in}
-use Rattle.lethe_run.specs.Slots.{Slots}
+use Rattle.lethe_run.specs.Slots.{AreInSlots, InSlots, Slots}
 use Rattle.lethe_run.specs.Transcript.{Answered, Course, InTurn, IsFailedAt, IsFaultOf, Start, Told, WasStopped, call_of, change_of, course, places_behind}
 use Rattle.lethe_run.proofs.Anywhere.{later_itself, later_then, stands_so, told_wider}
-use Rattle.lethe_run.proofs.Holding.{none_if, same_slots, shown_later}
+use Rattle.lethe_run.proofs.Holding.{none_if, shown_later}
+use Rattle.lethe_run.proofs.Pins.{same_pins}
+use Rattle.lethe_run.proofs.Staying.{in_slots_append}
 use Rattle.lethe_run.proofs.Outcomes.{told_of}
 use Rattle.lethe_run.proofs.Seen.{all_seen_later}
 use Rattle.lethe_run.proofs.Serving.{advances_then, all_borne_later, answered_before, built_more, built_start, built_still, in_turn_later, phase_of}
@@ -53,6 +55,12 @@ answered_lined told [] [] a = tt
 answered_lined told [] (l ∷ lines) a = absurd a
 answered_lined told (o ∷ orders) [] a = absurd a
 answered_lined told (o ∷ orders) (line.Answer caller r ∷ lines) a = (a.0, a.1, answered_lined told orders lines a.2)
+
+slots_lined : (orders : List Order) (s : Slots) (lines : List Line) (t : Slots) → AreInSlots (map unlined orders) s lines t → AreInSlots orders s lines t
+slots_lined [] s [] t is = is
+slots_lined [] s (l ∷ lines) t is = absurd is
+slots_lined (o ∷ orders) s [] t is = absurd is
+slots_lined (o ∷ orders) s (line.Answer caller r ∷ lines) t is = (is.0, is.1, slots_lined orders is.0 lines t is.2)
 
 phase_lined : (Ports : Type 0) (begin : Start) (start h : History) (orders : List Order) (lines : List Line) (old new : View) → IsPhase Ports begin start h (map unlined orders) lines old new → IsPhase Ports begin start h orders lines old new
 phase_lined Ports begin start h orders lines old new is = record {
@@ -91,7 +99,7 @@ told_later Ports from upto [] s m t (l ∷ lines) later told = absurd told
 told_later Ports from upto (o ∷ orders) s m t [] later told = absurd told
 told_later Ports from upto (o ∷ orders) s m t (line.Answer caller r ∷ lines) later told = (told.0, told.1, (told.2.0, later_then s m told.2.0 later told.2.1, told.2.2), told.3)
 
-told_append : (Ports : Type 0) (from upto : ℕ) (first second : List Order) (s m t : Standing) (lines more : List Line) → AreTold Ports from upto first s lines m → AreTold Ports from upto second m more t
+pub told_append : (Ports : Type 0) (from upto : ℕ) (first second : List Order) (s m t : Standing) (lines more : List Line) → AreTold Ports from upto first s lines m → AreTold Ports from upto second m more t
     → AreTold Ports from upto (first ++ second) s (lines ++ more) t
 told_append Ports from upto [] second s m t [] more a b = told_later Ports from upto second s m t more a b
 told_append Ports from upto [] second s m t (l ∷ lines) more a b = absurd a
@@ -109,7 +117,7 @@ in_turn_append c n m k [] more a b = subst (λ n. InTurn c n more k) a b
 in_turn_append c n m k (line.Answer caller r ∷ lines) more a b = (a.0, a.1, in_turn_append c a.0 m k lines more a.2 b)
 
 -- one phase behind another, as if they were one
-phase_then : (Ports : Type 0) (begin : Start) (from : Point) (start h g : History) (first second : List Order) (lines more : List Line) (old mid new : View) → mid.faults ≤ new.faults → IsOn begin from start old
+pub phase_then : (Ports : Type 0) (begin : Start) (from : Point) (start h g : History) (first second : List Order) (lines more : List Line) (old mid new : View) → mid.faults ≤ new.faults → IsOn begin from start old
     → IsPhase Ports begin start h first lines old mid → IsPhase Ports begin h g second more mid new → IsPhase Ports begin start g (first ++ second) (lines ++ more) old new
 phase_then Ports begin from start h g first second lines more old mid new le on p q =
     let added = q.served.begins.0 in
@@ -135,7 +143,8 @@ phase_then Ports begin from start h g first second lines more old mid new le on 
 module _ {D Page Port : Type 0} {kind : Ghosts D Page Port} (Tells Ports : Type 0) where
   pub stretch_none : (view : View) (held : List (Option (Snapshot D Page Port kind))) → IsStretch Tells Ports [] [] view held view held
   stretch_none view held = record {
-    told = later_itself (standing_of view (slots_of view held));
+    told = later_itself (standing_of view);
+    slots = refl;
     served = λ told begin from start on shown. (start, phase_of Ports begin from start start [] [] view view on (built_start Ports begin start view), shown);
     faults = omega arith;
   }
@@ -146,9 +155,10 @@ module _ {D Page Port : Type 0} {kind : Ghosts D Page Port} (Tells Ports : Type 
       let up = a.faults in
       let on_up = b.faults in
       record {
-        told = told_append Ports old.faults new.faults first second (standing_of old (slots_of old was)) (standing_of mid (slots_of mid between)) (standing_of new (slots_of new held)) lines more
-            (told_wider Ports old.faults mid.faults old.faults new.faults (omega arith) on_up first (standing_of old (slots_of old was)) lines (standing_of mid (slots_of mid between)) a.told)
-            (told_wider Ports mid.faults new.faults old.faults new.faults up (omega arith) second (standing_of mid (slots_of mid between)) more (standing_of new (slots_of new held)) b.told);
+        told = told_append Ports old.faults new.faults first second (standing_of old) (standing_of mid) (standing_of new) lines more
+            (told_wider Ports old.faults mid.faults old.faults new.faults (omega arith) on_up first (standing_of old) lines (standing_of mid) a.told)
+            (told_wider Ports mid.faults new.faults old.faults new.faults up (omega arith) second (standing_of mid) more (standing_of new) b.told);
+        slots = in_slots_append first second (slots_of was) (slots_of between) (slots_of held) lines more a.slots b.slots;
         served = λ told begin from start on shown.
             let so_far = a.served told begin from start on shown in
             let then = b.served told begin from so_far.0 (so_far.1.goes.stands from on) so_far.2 in
@@ -159,19 +169,21 @@ module _ {D Page Port : Type 0} {kind : Ghosts D Page Port} (Tells Ports : Type 
   pub stretch_lined : (orders : List Order) (lines : List Line) (old new : View) (was held : List (Option (Snapshot D Page Port kind)))
       → IsStretch Tells Ports (map unlined orders) lines old was new held → IsStretch Tells Ports orders lines old was new held
   stretch_lined orders lines old new was held a = record {
-    told = told_lined Ports old.faults new.faults orders (standing_of old (slots_of old was)) lines (standing_of new (slots_of new held)) a.told;
+    told = told_lined Ports old.faults new.faults orders (standing_of old) lines (standing_of new) a.told;
+    slots = slots_lined orders (slots_of was) lines (slots_of held) a.slots;
     served = λ told begin from start on shown. let is = a.served told begin from start on shown in (is.0, phase_lined Ports begin start is.0 orders lines old new is.1, is.2);
     faults = a.faults;
   }
 
   -- one order that is answered
   pub stretch_one : (order : Order) (r : Reply) (old new : View) (was held : List (Option (Snapshot D Page Port kind))) → old.faults ≤ new.faults
-      → IsTold Ports old.faults new.faults order.act (standing_of old (slots_of old was)) r (standing_of new (slots_of new held))
+      → IsTold Ports old.faults new.faults order.act (standing_of old) r (standing_of new) → InSlots order.act r (slots_of was) (slots_of held)
       → (Tells → (begin : Start) (from : Point) (h : History) → IsOn begin from h old → AreShown h was → (g : History) × IsAnswered Ports begin h g order.caller order.act r old new)
       → (Tells → (begin : Start) (from : Point) (h : History) → IsOn begin from h old → AreShown h was → AreShown h held)
       → IsStretch Tells Ports (order ∷ []) (line.Answer order.caller r ∷ []) old was new held
-  stretch_one order r old new was held up told served shown = record {
-    told = (refl, standing_of new (slots_of new held), (standing_of old (slots_of old was), later_itself (standing_of old (slots_of old was)), told), later_itself (standing_of new (slots_of new held)));
+  stretch_one order r old new was held up told slots served shown = record {
+    told = (refl, standing_of new, (standing_of old, later_itself (standing_of old), told), later_itself (standing_of new));
+    slots = (slots_of held, slots, refl);
     served = λ tells begin from start on before.
         let is = served tells begin from start on before in (
           is.0,
@@ -182,12 +194,13 @@ module _ {D Page Port : Type 0} {kind : Ghosts D Page Port} (Tells Ports : Type 
   }
 
   -- one for which there was no memory
-  pub stretch_still : (old new : View) (was held : List (Option (Snapshot D Page Port kind))) → old.faults ≤ new.faults → IsLater (standing_of old (slots_of old was)) (standing_of new (slots_of new held))
+  pub stretch_still : (old new : View) (was held : List (Option (Snapshot D Page Port kind))) → old.faults ≤ new.faults → IsLater (standing_of old) (standing_of new) → slots_of held ≡ slots_of was
       → (Tells → (begin : Start) (from : Point) (h : History) → IsOn begin from h old → AreShown h was → Advances begin h h old new)
       → (Tells → (begin : Start) (from : Point) (h : History) → IsOn begin from h old → AreShown h was → AreShown h held)
       → IsStretch Tells Ports [] [] old was new held
-  stretch_still old new was held up same still shown = record {
+  stretch_still old new was held up same kept still shown = record {
     told = same;
+    slots = kept;
     served = λ tells begin from start on before. (
       start,
       phase_of Ports begin from start start [] [] old new on (built_still Ports begin from start start [] [] old old new up on (built_start Ports begin start old) (still tells begin from start on before)),
@@ -215,11 +228,11 @@ pub orders_append : (caller : ℕ) (first second : List Asked) → orders_of cal
 orders_append caller first second = map-append (λ (change : Asked). record { line = 0; caller = caller; act = act_of change }) first second
 
 module _ (Ports : Type 0) (from upto caller : ℕ) where
-  told_done : (made : List Asked) (s t : Standing) → s.failed ≡ None → t.count ≡ s.count + length made → t.failed ≡ None → t.clock ≡ s.clock → t.slots ≡ s.slots → s.next ≤ t.next
+  told_done : (made : List Asked) (s t : Standing) → s.failed ≡ None → t.count ≡ s.count + length made → t.failed ≡ None → t.clock ≡ s.clock → t.pins ≡ s.pins → s.next ≤ t.next
       → AreTold Ports from upto (orders_of caller made) s (done_lines caller s.count (length made)) t
   told_done [] s t runs count failed clock kept drawn =
       let counted : t.count ≡ s.count = omega (arith, count) in
-      (drawn, λ i. record { count = counted i; failed = (failed ∙ sym runs) i; clock = clock i; slots = kept i; next = t.next; entries = t.entries })
+      (drawn, λ i. record { count = counted i; failed = (failed ∙ sym runs) i; clock = clock i; pins = kept i; next = t.next; entries = t.entries })
   told_done (x ∷ made) s t runs count failed clock kept drawn =
       let next : Standing = record s { count = suc s.count; failed = None; next = t.next; entries = t.entries } in (
         refl,
@@ -231,6 +244,14 @@ module _ (Ports : Type 0) (from upto caller : ℕ) where
   told_stopped : (more : List Asked) (s : Standing) (at : ℕ) → s.failed ≡ Some at → AreTold Ports from upto (orders_of caller more) s (stopped_lines caller at (length more)) s
   told_stopped [] s at stopped = later_itself s
   told_stopped (x ∷ more) s at stopped = (refl, s, (s, later_itself s, ((asks x, stopped, refl), refl, omega arith)), told_stopped more s at stopped)
+
+slots_done : (caller : ℕ) (made : List Asked) (n : ℕ) (s : Slots) → AreInSlots (orders_of caller made) s (done_lines caller n (length made)) s
+slots_done caller [] n s = refl
+slots_done caller (x ∷ made) n s = (s, refl, slots_done caller made (suc n) s)
+
+slots_stopped : (caller : ℕ) (more : List Asked) (at : ℕ) (s : Slots) → AreInSlots (orders_of caller more) s (stopped_lines caller at (length more)) s
+slots_stopped caller [] at s = refl
+slots_stopped caller (x ∷ more) at s = (s, refl, slots_stopped caller more at s)
 
 -- and on one that tells what it holds
 
@@ -317,7 +338,8 @@ module _ (Tells Ports : Type 0) (caller : ℕ) (changes left : List Asked) (done
       more = done_lines caller old.state.count (length is.row.made);
       are = is.row.are;
       lines = pushed ∙ ap (λ n. before ++ done_lines caller old.state.count n) (sym is.row.many);
-      told = λ slots. told_done Ports old.faults new.faults caller is.row.made (standing_of old slots) (standing_of new slots) runs (is.row.count ∙ ap (λ l. old.state.count + length l) tried_is) still is.clock refl is.drawn;
+      told = told_done Ports old.faults new.faults caller is.row.made (standing_of old) (standing_of new) runs (is.row.count ∙ ap (λ l. old.state.count + length l) tried_is) still is.clock (same_pins old new pins) is.drawn;
+      slots = slots_done caller is.row.made old.state.count;
       served = served;
       faults = is.row.faults;
       face = is.face_is;
@@ -361,14 +383,14 @@ module _ (Tells Ports : Type 0) (caller : ℕ) (changes left : List Asked) (done
     tried_is : length (tried is.row.made is.row.failed) ≡ length is.row.made + 1
     tried_is = ap (λ f. length (tried is.row.made f)) fault ∙ length-append is.row.made (next ∷ [])
 
-    told_failed : (slots : Slots) → AreTold Ports old.faults new.faults (orders_of caller (is.row.made ++ next ∷ others)) (standing_of old slots) all_lines (standing_of new slots)
-    told_failed slots =
-        let mid : Standing = record (standing_of old slots) { count = old.state.count + length is.row.made; failed = None; next = new.state.next; entries = entries_of new.levels new.state.manifest.files } in
-        let t = standing_of new slots in
+    told_failed : AreTold Ports old.faults new.faults (orders_of caller (is.row.made ++ next ∷ others)) (standing_of old) all_lines (standing_of new)
+    told_failed =
+        let mid : Standing = record (standing_of old) { count = old.state.count + length is.row.made; failed = None; next = new.state.next; entries = entries_of new.levels new.state.manifest.files } in
+        let t = standing_of new in
         let count = is.row.count in
-        subst (λ orders. AreTold Ports old.faults new.faults orders (standing_of old slots) all_lines t) (sym (orders_append caller is.row.made (next ∷ others)))
-        (told_append Ports old.faults new.faults (orders_of caller is.row.made) (orders_of caller (next ∷ others)) (standing_of old slots) mid t (done_lines caller old.state.count (length is.row.made)) fault_lines
-        (told_done Ports old.faults new.faults caller is.row.made (standing_of old slots) mid runs refl refl refl refl is.drawn) (
+        subst (λ orders. AreTold Ports old.faults new.faults orders (standing_of old) all_lines t) (sym (orders_append caller is.row.made (next ∷ others)))
+        (told_append Ports old.faults new.faults (orders_of caller is.row.made) (orders_of caller (next ∷ others)) (standing_of old) mid t (done_lines caller old.state.count (length is.row.made)) fault_lines
+        (told_done Ports old.faults new.faults caller is.row.made (standing_of old) mid runs refl refl refl refl is.drawn) (
           refl,
           t,
           (
@@ -381,14 +403,20 @@ module _ (Tells Ports : Type 0) (caller : ℕ) (changes left : List Asked) (done
                 omega (arith, before_is),
                 rose,
                 omega (arith, after_is),
-                stands_so new slots (record mid { count = failure.place; failed = Some failure.place }) (sym place_is) stopped is.clock refl,
+                stands_so new (record mid { count = failure.place; failed = Some failure.place }) (sym place_is) stopped is.clock (same_pins old new pins),
               ),
-              refl,
+              same_pins old new pins,
               omega arith,
             ),
           ),
           told_stopped Ports old.faults new.faults caller others t failure.place stopped,
         ))
+
+    slots_failed : (slots : Slots) → AreInSlots (orders_of caller (is.row.made ++ next ∷ others)) slots all_lines slots
+    slots_failed slots =
+        subst (λ orders. AreInSlots orders slots all_lines slots) (sym (orders_append caller is.row.made (next ∷ others)))
+        (in_slots_append (orders_of caller is.row.made) (orders_of caller (next ∷ others)) slots slots slots (done_lines caller old.state.count (length is.row.made)) fault_lines
+        (slots_done caller is.row.made old.state.count slots) (slots, refl, slots_stopped caller others failure.place slots))
 
     none_in_all : certificates_in all_lines ≡ []
     none_in_all =
@@ -449,6 +477,7 @@ module _ (Tells Ports : Type 0) (caller : ℕ) (changes left : List Asked) (done
       are = is.row.are ∙ ap (λ l. is.row.made ++ l) rest_is ∙ sym (append-nil (is.row.made ++ next ∷ others));
       lines = pushed;
       told = told_failed;
+      slots = slots_failed;
       served = served_failed;
       faults = is.row.faults;
       face = is.face_is;
@@ -522,7 +551,8 @@ row_still Tells Ports caller changes lines view = record {
   more = [];
   are = refl;
   lines = sym (append-nil lines);
-  told = λ slots. later_itself (standing_of view slots);
+  told = later_itself (standing_of view);
+  slots = λ slots. refl;
   served = λ told begin from start on. (start, phase_of Ports begin from start start [] [] view view on (built_start Ports begin start view));
   faults = omega arith;
   face = refl;
@@ -555,8 +585,8 @@ module _ {D Page Port : Type 0} {kind : Ghosts D Page Port} (Tells Ports : Type 
     are = made.are;
     lines = made.lines;
     stretch = record {
-      told = subst (λ slots. AreTold Ports old.faults new.faults (orders_of caller made.front) (standing_of old (slots_of old held)) made.more (standing_of new slots)) (sym (same_slots held old new made.pins))
-          (made.told (slots_of old held));
+      told = made.told;
+      slots = made.slots (slots_of held);
       served = λ told begin from start on shown.
           let is = made.served told begin from start on in
           let begins = is.1.served.begins in
@@ -688,10 +718,9 @@ module _ {D Page Port : Type 0} {kind : Ghosts D Page Port} (Tells Ports Whole :
   -- what of a phase was answered
   pub phase_parts : map unlined orders ≡ front ++ left → (Whole → left ≡ []) → IsStretch Tells Ports front lines old was new held
       → (part : List Order) × (rest : List Order) × (orders ≡ part ++ rest) × (Whole → rest ≡ [])
-      × AreTold Ports old.faults new.faults part (standing_of old (slots_of old was)) lines (standing_of new (slots_of new held))
-      × (Tells → (begin : Start) (from : Point) (start : History) → IsOn begin from start old → AreShown start was → (h : History) × IsPhase Ports begin start h part lines old new × AreShown h held)
+      × IsStretch Tells Ports part lines old was new held
   phase_parts are all stretch =
       let parts = lined_parts orders front left are in
       let part = parts.0 in
       let is = stretch_lined Tells Ports part lines old new was held (subst (λ os. IsStretch Tells Ports os lines old was new held) (sym parts.3) stretch) in
-      (part, parts.1, parts.2, (λ whole. none_lined parts.1 (parts.4 ∙ all whole)), is.told, is.served)
+      (part, parts.1, parts.2, (λ whole. none_lined parts.1 (parts.4 ∙ all whole)), is)

@@ -25,13 +25,13 @@ use Rattle.lethe_run.specs.declared.reply.Line.TheVariants as line
 use Rattle.lethe_run.specs.declared.reply.Reply.{Reply}
 use Rattle.lethe_run.specs.declared.reply.Reply.TheVariants.{Done, Ticked, Got, Scanned, Counted, Pinned, PinGot, PinScanned, Unpinned, Fault, Stopped, Exhausted, Backwards, Barred, ReadFault, Damaged}
 use Rattle.lethe_run.specs.Carried.{IsSeen, Look, certificate_in, certificate_of, certificates_in, look_of, looked_in, looks_in}
-use Rattle.lethe_run.specs.Serving.{Advances, IsBorneOn, IsOn, IsAnswered, IsPhase, Point}
+use Rattle.lethe_run.specs.Serving.{Advances, IsBorneOn, IsOn, IsAnswered, IsPhase, IsServedInTurn, Point}
 use Rattle.lethe_run.proofs.Images.{calls_then, still}
 use Rattle.lethe_run.proofs.Lasting.{within}
 use Rattle.lethe_run.proofs.Outcomes.{told_of}
 use Rattle.lethe_run.proofs.Seen.{all_seen_later}
 use Rattle.lethe_run.proofs.Turns.{places_in_turn, sees_in_turn}
-use Rattle.lethe_run.specs.Transcript.{Course, Start, Told, IsShort, course, call_of, change_of, read_of, slot_read_of, IsAhead, IsDoneAt, IsAnswerAt, IsPinAt, IsStatAt, IsTickAt, IsFailedAt, IsFaultOf, Answers, Answered, places_behind, is_of, Follows, InTurn, IsServed, AreServed}
+use Rattle.lethe_run.specs.Transcript.{Course, Start, Told, IsShort, course, call_of, change_of, read_of, slot_read_of, IsAhead, IsDoneAt, IsAnswerAt, IsPinAt, IsStatAt, IsTickAt, IsFailedAt, IsFaultOf, Answers, Answered, places_behind, is_of, Follows, InTurn, IsServed, AreServed, printed}
 
 -- What a line says of a history it says of a longer one, and when the count of faults rises, unless the places were used up: then nothing follows.
 
@@ -286,18 +286,34 @@ built_start Ports begin start view = record { begins = ([], sym (append-nil star
 -- the same when the counts have risen
 
 module _ (Ports : Type 0) (begin : Start) (f0 f1 m0 m1 : ℕ) (le : f0 ≤ f1) (on : m0 ≤ m1) where
-  phase_later : (start h : History) (orders : List Order) (lines : List Line) → IsServed (course Ports begin f0 m0) start orders lines h → IsServed (course Ports begin f1 m1) start orders lines h
-  phase_later start h orders lines served = record {
+  phase_later : (start h : History) (orders : List Order) (lines turned : List Line) → IsServed (course Ports begin f0 m0) start orders lines turned h → IsServed (course Ports begin f1 m1) start orders lines turned h
+  phase_later start h orders lines turned served = record {
     begins = served.begins;
     legal = served.legal;
-    answered = subst (λ x. Answered (told_of x (course Ports begin f1 m1)) orders lines) (append-nil h) (answered_before h [] (subst IsLegal (sym (append-nil h)) served.legal) Ports begin f0 f1 m0 m1 le on orders lines served.answered);
+    answered = subst (λ x. Answered (told_of x (course Ports begin f1 m1)) (printed orders) lines) (append-nil h)
+        (answered_before h [] (subst IsLegal (sym (append-nil h)) served.legal) Ports begin f0 f1 m0 m1 le on (printed orders) lines served.answered);
     once = served.once;
     seen = served.seen;
-    alone = in_turn_later Ports begin f0 f1 m0 m1 on (length start) (length h) lines served.alone;
+    order = served.order;
+    turns = in_turn_later Ports begin f0 f1 m0 m1 on (length start) (length h) turned served.turns;
   }
 
-  pub served_later : (start h : History) (phases : List (List Order)) (lines : List (List Line)) → AreServed (course Ports begin f0 m0) start phases lines h → AreServed (course Ports begin f1 m1) start phases lines h
-  served_later start h [] [] served = served
-  served_later start h [] (l ∷ lines) served = absurd served
-  served_later start h (p ∷ phases) [] served = absurd served
-  served_later start h (p ∷ phases) (l ∷ lines) served = (served.0, phase_later start served.0 p l served.1, served_later served.0 h phases lines served.2)
+  pub served_later : (start h : History) (phases : List (List Order)) (lines turned : List (List Line)) → AreServed (course Ports begin f0 m0) start phases lines turned h → AreServed (course Ports begin f1 m1) start phases lines turned h
+  served_later start h [] [] [] served = served
+  served_later start h [] [] (t ∷ turned) served = absurd served
+  served_later start h [] (l ∷ lines) turned served = absurd served
+  served_later start h (p ∷ phases) [] turned served = absurd served
+  served_later start h (p ∷ phases) (l ∷ lines) [] served = absurd served
+  served_later start h (p ∷ phases) (l ∷ lines) (t ∷ turned) served = (served.0, phase_later start served.0 p l t served.1, served_later served.0 h phases lines turned served.2)
+
+-- orders that are answered one after another, as they are printed
+pub served_printed : (c : Course) (start h : History) (orders part : List Order) (lines : List Line) → part ≡ printed orders → IsServedInTurn c start part lines h → IsServed c start orders lines lines h
+served_printed c start h orders part lines is served = record {
+  begins = served.begins;
+  legal = served.legal;
+  answered = subst (λ part. Answered (told_of h c) part lines) is served.answered;
+  once = served.once;
+  seen = served.seen;
+  order = λ caller. refl;
+  turns = served.alone;
+}

@@ -27,7 +27,6 @@ use Rattle.lethe_manifest.specs.declared.manifest.Cited.{Cited}
 use Rattle.lethe_stored.specs.Files.{Parts, StoredFile, lines_in, parts_of}
 use Rattle.lethe_run.specs.Anywhere.{IsDrawn, entries_of, standing_of}
 use Rattle.lethe_run.specs.Serving.{IsOn, Point, opened_in}
-use Rattle.lethe_run.specs.Slots.{Slots}
 use Rattle.lethe_run.specs.Transcript.{Course, Start, IsShort, course}
 use Rattle.lethe_run.proofs.Images.{done_runs}
 
@@ -84,11 +83,11 @@ task_counted view task of =
     let some = of.some in
     omega (arith, all, some)
 
-drawn_for_task : (view : View) (slots : Slots) (task : PlainTask) (numbers : ℕ) → IsTaskOf view task → numbers ≤ most_numbers (counted_in (inputs_in task)) → max_place ≤ view.state.next + numbers → IsDrawn (standing_of view slots)
-drawn_for_task view slots task numbers of few reach = let all = task_counted view task of in omega (arith, reach, few, all)
+drawn_for_task : (view : View) (task : PlainTask) (numbers : ℕ) → IsTaskOf view task → numbers ≤ most_numbers (counted_in (inputs_in task)) → max_place ≤ view.state.next + numbers → IsDrawn (standing_of view)
+drawn_for_task view task numbers of few reach = let all = task_counted view task of in omega (arith, reach, few, all)
 
-module _ (Tells : Type 0) (old new : View) (slots : Slots) (small : frozen_len old.state.frozen ≤ 16384) (drawn : old.state.next ≤ new.state.next) where
-  drawn_before : (frozen : Option Buffered) → reasons.IsShortFor frozen old.state → IsDrawn (standing_of new slots)
+module _ (Tells : Type 0) (old new : View) (small : frozen_len old.state.frozen ≤ 16384) (drawn : old.state.next ≤ new.state.next) where
+  drawn_before : (frozen : Option Buffered) → reasons.IsShortFor frozen old.state → IsDrawn (standing_of new)
   drawn_before None freezes = omega (arith, freezes, drawn)
   drawn_before (Some buffer) flushes =
       let few = flushes.drafted.few in
@@ -96,16 +95,16 @@ module _ (Tells : Type 0) (old new : View) (slots : Slots) (small : frozen_len o
       omega (arith, few, reach, drawn, small)
 
   -- for room, before it was made or for a merge behind that
-  pub drawn_for_room : IsShortOfRoom Tells old.state new → IsDrawn (standing_of new slots)
+  pub drawn_for_room : IsShortOfRoom Tells old.state new → IsDrawn (standing_of new)
   drawn_for_room (inl few) = drawn_before old.state.frozen few
-  drawn_for_room (inr few) = drawn_for_task new slots few.task _ few.of few.bounded few.short
+  drawn_for_room (inr few) = drawn_for_task new few.task _ few.of few.bounded few.short
 
-module _ (Tells : Type 0) (to : ℕ) (view : View) (slots : Slots) (small : frozen_len view.state.frozen ≤ 16384) where
+module _ (Tells : Type 0) (to : ℕ) (view : View) (small : frozen_len view.state.frozen ≤ 16384) where
   -- for a step of a tick
-  pub drawn_for_tick : IsShortToTick Tells to view → IsDrawn (standing_of view slots)
+  pub drawn_for_tick : IsShortToTick Tells to view → IsDrawn (standing_of view)
   drawn_for_tick (inl flushes) =
       let few = flushes.drafted.few in
       let reach = flushes.short in
       omega (arith, few, reach, small)
   drawn_for_tick (inr (inl freezes)) = omega (arith, freezes)
-  drawn_for_tick (inr (inr few)) = drawn_for_task view slots few.task _ few.of few.bounded few.short
+  drawn_for_tick (inr (inr few)) = drawn_for_task view few.task _ few.of few.bounded few.short

@@ -40,10 +40,9 @@ use Rattle.lethe_stored.specs.Kept.{certificates}
 use Rattle.lethe_stored.specs.Left.{without_failed}
 use Rattle.lethe_run.specs.declared.reply.Reply.TheVariants as reply
 use Rattle.lethe_run.specs.Anywhere.{IsCertificateOf, IsDrawn, standing_of}
-use Rattle.lethe_run.specs.Holding.{HoldsPins}
 use Rattle.lethe_run.specs.Replies.{IsOfTick, refusal_of, tick_refusal_of, tick_reply_of}
 use Rattle.lethe_run.specs.Serving.{IsBorneOn, IsOn, Point}
-use Rattle.lethe_run.specs.Slots.{Slots, pins_of}
+use Rattle.lethe_run.specs.Pins.{pins_of}
 use Rattle.lethe_run.specs.Transcript.{Course, IsShort, Start, course}
 use Rattle.lethe_run.proofs.Anywhere.{Tells, ok_runs, stands_so}
 use Rattle.lethe_run.proofs.Anywhere as anywhere
@@ -164,34 +163,34 @@ module _ (to : ℕ) (old new : View) where
         sym (ap (λ (clock : Clock). clock.certificate) clock) ∙ prepared digest new.state.manifest.certificate certificate (where_so (nat_le new.state.manifest.config.threshold to) _ certificate (sym is)),
       )
 
-  module _ (Told Ports : Type 0) (point : ℕ) (at : point ≡ old.state.count) (slots behind : Slots) (kept : behind ≡ slots) where
-    backwards_tells : (why : Refused) → (old.state.stopped ≡ None → to < old.state.manifest.clock → new ≡ old) → IsBehind old to why → anywhere.Says Told Ports act call refl face old new slots behind kept (Some why) → Tells Ports act (tick_refusal_of point why) old slots new behind
+  module _ (Told Ports : Type 0) (point : ℕ) (at : point ≡ old.state.count) (kept : pins_of new ≡ pins_of old) where
+    backwards_tells : (why : Refused) → (old.state.stopped ≡ None → to < old.state.manifest.clock → new ≡ old) → IsBehind old to why → anywhere.Says Told Ports act call refl face old new kept (Some why) → Tells Ports act (tick_refusal_of point why) old new
     backwards_tells why same (runs, ahead, is) says =
-        let told = subst (λ e. anywhere.Says Told Ports act call refl face old new slots behind kept (Some e)) is says in
-        subst (λ e. Tells Ports act (tick_refusal_of point e) old slots new behind) (sym is)
-        (((to, refl, ahead), runs, at, refl, λ i. standing_of (same runs ahead i) (kept i)), kept, told.drawn)
+        let told = subst (λ e. anywhere.Says Told Ports act call refl face old new kept (Some e)) is says in
+        subst (λ e. Tells Ports act (tick_refusal_of point e) old new) (sym is)
+        (((to, refl, ahead), runs, at, refl, λ i. standing_of (same runs ahead i)), kept, told.drawn)
 
-    -- the first pin of the least limit is in a slot
-    barred_tells : HoldsPins old slots → AreHeld old.pins → (IsTickable old to → (pin limit : ℕ) → first_limit_of old.pins.pins ≡ Some (pin, limit) → limit ≤ to → new ≡ old) → (why : Refused) → IsTickable old to × IsBarred old to why → anywhere.Says Told Ports act call refl face old new slots behind kept (Some why)
-        → Tells Ports act (tick_refusal_of point why) old slots new behind
-    barred_tells holds pins same why (may, barred) says =
-        let told = subst (λ e. anywhere.Says Told Ports act call refl face old new slots behind kept (Some e)) barred.told says in
-        let by = barred_by old.pins.pins (pins_of slots) barred.pin barred.limit holds.those pins.ordered barred.first in
-        subst (λ e. Tells Ports act (tick_refusal_of point e) old slots new behind) (sym barred.told)
-        (((to, refl, barred.reached), may.runs, λ i. standing_of (same may barred.pin barred.limit barred.first barred.reached i) (kept i)), (by.0, by.1, by.2, by.3, by.4, kept), told.drawn)
+    -- the first pin of the least limit is held
+    barred_tells : AreHeld old.pins → (IsTickable old to → (pin limit : ℕ) → first_limit_of old.pins.pins ≡ Some (pin, limit) → limit ≤ to → new ≡ old) → (why : Refused) → IsTickable old to × IsBarred old to why → anywhere.Says Told Ports act call refl face old new kept (Some why)
+        → Tells Ports act (tick_refusal_of point why) old new
+    barred_tells pins same why (may, barred) says =
+        let told = subst (λ e. anywhere.Says Told Ports act call refl face old new kept (Some e)) barred.told says in
+        let by = barred_by old.pins.pins barred.pin barred.limit pins.ordered barred.first in
+        subst (λ e. Tells Ports act (tick_refusal_of point e) old new) (sym barred.told)
+        (((to, refl, barred.reached), may.runs, λ i. standing_of (same may barred.pin barred.limit barred.first barred.reached i)), (by.0, by.1, kept), told.drawn)
 
     -- numbers run out for a step; rounds don't
-    nearly : old.rounds < max_place → frozen_len new.state.frozen ≤ 16384 → (max_place ≤ old.rounds) ⊎ IsShortToTick Told to new → IsDrawn (standing_of new behind)
+    nearly : old.rounds < max_place → frozen_len new.state.frozen ≤ 16384 → (max_place ≤ old.rounds) ⊎ IsShortToTick Told to new → IsDrawn (standing_of new)
     nearly rounds small (inl full) = absurd (omega (arith, rounds, full))
-    nearly rounds small (inr few) = drawn_for_tick Told to new behind small few
+    nearly rounds small (inr few) = drawn_for_tick Told to new small few
 
-    pub tick_tells : HoldsPins old slots → AreHeld old.pins → (before now : ℕ) (result : Result Ticked Refused) → OnOk result (All (λ pin. to < pin.limit) old.pins.pins) → OnOk result (old.state.manifest.clock ≤ to)
+    pub tick_tells : AreHeld old.pins → (before now : ℕ) (result : Result Ticked Refused) → OnOk result (All (λ pin. to < pin.limit) old.pins.pins) → OnOk result (old.state.manifest.clock ≤ to)
         → IfOk result (λ told. IsCertificateAt new.state.manifest.config.threshold to told.certificate) → (digest : List ℕ) → IfOk result (λ told. told.certificate ≡ certificate_by digest new.state.manifest to)
-        → anywhere.Says Told Ports act call refl face old new slots behind kept (result_err result)
+        → anywhere.Says Told Ports act call refl face old new kept (result_err result)
         → IfOk result (λ told. (told.place ≡ old.state.count + 1) × (told.clock ≡ to)) → old.rounds < max_place → frozen_len new.state.frozen ≤ 16384
         → (old.state.stopped ≡ None → to < old.state.manifest.clock → new ≡ old) → (IsTickable old to → (pin limit : ℕ) → first_limit_of old.pins.pins ≡ Some (pin, limit) → limit ≤ to → new ≡ old)
-        → IfErr result (HasReasonOfTick Told Ports to old new before now) → ((at : ℕ) → old.state.stopped ≡ Some at → IsErrOf result (refused.Stopped at)) → Tells Ports act (tick_reply_of point result) old slots new behind
-    tick_tells holds pins before now (Ok ticked) above forward due digest certificate says is rounds small ahead_same barred_same why stop =
+        → IfErr result (HasReasonOfTick Told Ports to old new before now) → ((at : ℕ) → old.state.stopped ≡ Some at → IsErrOf result (refused.Stopped at)) → Tells Ports act (tick_reply_of point result) old new
+    tick_tells pins before now (Ok ticked) above forward due digest certificate says is rounds small ahead_same barred_same why stop =
         let runs = ok_runs old (Ok ticked) ticked refl stop in
         let clock = clock_of old.state.manifest in (
           (
@@ -200,19 +199,19 @@ module _ (to : ℕ) (old new : View) where
             is.0,
             omega (arith, forward, is.1),
             subst (λ n. IsCertificateOf clock n ticked.certificate) (sym is.1) (certified digest says.clock ticked.certificate due certificate),
-            stands_so new behind (record (standing_of old slots) { count = ticked.place; failed = None; clock = clock_at clock ticked.clock }) (says.count ∙ sym is.0) (says.stopped ∙ runs) (says.clock ∙ ap (clock_at clock) (sym is.1)) kept,
+            stands_so new (record (standing_of old) { count = ticked.place; failed = None; clock = clock_at clock ticked.clock }) (says.count ∙ sym is.0) (says.stopped ∙ runs) (says.clock ∙ ap (clock_at clock) (sym is.1)) kept,
           ),
-          (subst (λ n. All (λ pin. n < pin.limit) (pins_of slots)) (sym is.1) (passed_by old.pins.pins (pins_of slots) to holds.those above), kept),
+          (subst (λ n. All (λ pin. n < pin.limit) (pins_of old).held) (sym is.1) (passed_by old.pins.pins to above), kept),
           says.drawn,
         )
-    tick_tells holds pins before now (Err why) above forward due digest certificate says is rounds small ahead_same barred_same (inl ahead) stop = backwards_tells why ahead_same ahead says
-    tick_tells holds pins before now (Err why) above forward due digest certificate says is rounds small ahead_same barred_same (inr (inl barred)) stop = barred_tells holds pins barred_same why barred says
-    tick_tells holds pins before now (Err why) above forward due digest certificate says is rounds small ahead_same barred_same (inr (inr (inl reason))) stop =
-        subst (λ r. Tells Ports act r old slots new behind) (hindered_not_behind point why _ old new.faults reason)
-        (anywhere.hindered Told Ports act call refl face old new slots behind kept ((max_place ≤ old.rounds) ⊎ IsShortToTick Told to new) (nearly rounds small) why reason says)
-    tick_tells holds pins before now (Err why) above forward due digest certificate says is rounds small ahead_same barred_same (inr (inr (inr reason))) stop =
-        subst (λ r. Tells Ports act r old slots new behind) (unreadable_not_behind point why Told Ports before now reason.1)
-        (anywhere.unreadable Told Ports act call refl face old new slots behind kept before now why reason.0 reason.1 says)
+    tick_tells pins before now (Err why) above forward due digest certificate says is rounds small ahead_same barred_same (inl ahead) stop = backwards_tells why ahead_same ahead says
+    tick_tells pins before now (Err why) above forward due digest certificate says is rounds small ahead_same barred_same (inr (inl barred)) stop = barred_tells pins barred_same why barred says
+    tick_tells pins before now (Err why) above forward due digest certificate says is rounds small ahead_same barred_same (inr (inr (inl reason))) stop =
+        subst (λ r. Tells Ports act r old new) (hindered_not_behind point why _ old new.faults reason)
+        (anywhere.hindered Told Ports act call refl face old new kept ((max_place ≤ old.rounds) ⊎ IsShortToTick Told to new) (nearly rounds small) why reason says)
+    tick_tells pins before now (Err why) above forward due digest certificate says is rounds small ahead_same barred_same (inr (inr (inr reason))) stop =
+        subst (λ r. Tells Ports act r old new) (unreadable_not_behind point why Told Ports before now reason.1)
+        (anywhere.unreadable Told Ports act call refl face old new kept before now why reason.0 reason.1 says)
 
   -- Over a store that stands for a history
 

@@ -1,6 +1,7 @@
 -- Which lines may answer a script on any disk, whether or not it tells what it holds: whose line each is, of which kind, at which place, what stops a store, what its clock is and
--- a certificate says, why numbers ran out, and what the slots hold. What a read found, and a certificate's digest, isn't told.
-use Rattle.std.specs.Prelude.{◌≡◌, ◌⊎◌, ◌≤◌, ◌<◌, ◌+◌, ◌==◌, ℕ, List, [], ◌∷◌, filter, slice_index_or, sum_by, Option, Some, None, IsSome}
+-- a certificate says, why numbers ran out, which pins are held, and what the slots hold. What a read found, and a certificate's digest, isn't told.
+use Rattle.std.specs.Prelude.{◌≡◌, ◌⊎◌, ◌≤◌, ◌<◌, ◌+◌, ◌==◌, ℕ, List, [], ◌∷◌, filter, map, slice_index_or, sum_by, Option, Some, None, IsSome}
+use Rattle.std.specs.List.{flat_map}
 use Rattle.lethe_base.specs.Counts.{Rose}
 use Rattle.lethe_base.specs.Keys.{Bytes}
 use Rattle.lethe_base.specs.Limits.{max_place}
@@ -20,16 +21,18 @@ use Rattle.lethe_run.specs.declared.reply.Line.{Line}
 use Rattle.lethe_run.specs.declared.reply.Line.TheVariants as line
 use Rattle.lethe_run.specs.declared.reply.Reply.{Reply}
 use Rattle.lethe_run.specs.declared.reply.Reply.TheVariants.{Done, Ticked, Got, Scanned, Counted, Pinned, PinGot, PinScanned, Unpinned, Fault, Stopped, Exhausted, Backwards, Barred, ReadFault, Damaged}
-use Rattle.lethe_run.specs.Slots.{InSlots, Slots, no_slots}
-use Rattle.lethe_run.specs.Transcript.{IsRead, call_of, change_of, most_of_a_change}
+use Rattle.lethe_run.specs.Pins.{InPins, Pins, no_pins, pins_of}
+use Rattle.lethe_run.specs.Refusals.{all_of}
+use Rattle.lethe_run.specs.Slots.{AreInSlots, Slots, no_slots}
+use Rattle.lethe_run.specs.Transcript.{AreTurned, IsRead, call_of, change_of, orders_by, is_of, most_of_a_change, printed}
 
--- How many places are taken, the place of the change that failed, if one did, the clock, and what the slots hold; and as they are in memory the next number of an object, and how many
--- entries the headers of all files count.
+-- How many places are taken, the place of the change that failed, if one did, the clock, and the pins; and as they are in memory the next number of an object, and how many entries the
+-- headers of all files count.
 pub record Standing : Type 0 where
   pub count : ℕ
   pub failed : Option ℕ
   pub clock : Clock
-  pub slots : Slots
+  pub pins : Pins
   pub next : ℕ
   pub entries : ℕ
 
@@ -37,12 +40,12 @@ pub record Standing : Type 0 where
 abbrev pub entries_of : List (List Parts) → List Cited → ℕ
 entries_of levels files = sum_by (λ cited. sum_by (λ parts. entries_in (lines_of parts.header.tiles)) (filter (λ parts. parts.header.no == cited.no) (slice_index_or levels cited.level []))) files
 
-abbrev pub standing_of : View → Slots → Standing
-standing_of view slots = record {
+abbrev pub standing_of : View → Standing
+standing_of view = record {
   count = view.state.count;
   failed = view.state.stopped;
   clock = clock_of view.state.manifest;
-  slots = slots;
+  pins = pins_of view;
   next = view.state.next;
   entries = entries_of view.levels view.state.manifest.files;
 }
@@ -91,16 +94,16 @@ IsToldOfPlaces PortsFail from upto act s (Exhausted last) t =
 IsToldOfPlaces PortsFail from upto act s (Got point held) t = ((key : Bytes) × (act ≡ Get key)) × (point ≡ s.count) × (t ≡ s)
 IsToldOfPlaces PortsFail from upto act s (Scanned point pairs) t = ((lo hi : Bytes) × (act ≡ Scan lo hi)) × (point ≡ s.count) × (t ≡ s)
 IsToldOfPlaces PortsFail from upto act s (Counted point stat) t = (act ≡ Stat) × (point ≡ s.count) × (stat.clock ≡ s.clock.time) × (t ≡ s)
-IsToldOfPlaces PortsFail from upto act s (Pinned point number limit) t = ((slot : ℕ) × (act ≡ Pin slot)) × (point ≡ s.count) × (t ≡ record s { slots = t.slots })
+IsToldOfPlaces PortsFail from upto act s (Pinned point number limit) t = ((slot : ℕ) × (act ≡ Pin slot)) × (point ≡ s.count) × (t ≡ record s { pins = t.pins })
 IsToldOfPlaces PortsFail from upto act s (PinGot number point held) t = t ≡ s
 IsToldOfPlaces PortsFail from upto act s (PinScanned number point pairs) t = t ≡ s
-IsToldOfPlaces PortsFail from upto act s (Unpinned point number) t = (point ≡ s.count) × (t ≡ record s { slots = t.slots })
+IsToldOfPlaces PortsFail from upto act s (Unpinned point number) t = (point ≡ s.count) × (t ≡ record s { pins = t.pins })
 IsToldOfPlaces PortsFail from upto act s ReadFault t = IsUnread act s t × PortsFail
 IsToldOfPlaces PortsFail from upto act s (Damaged page) t = IsUnread act s t
 
--- and of the slots; the next number doesn't fall
+-- and of the pins; the next number doesn't fall
 abbrev pub IsTold : Type 0 → ℕ → ℕ → Act → Standing → Reply → Standing → Type 0
-IsTold PortsFail from upto act s reply t = IsToldOfPlaces PortsFail from upto act s reply t × InSlots act reply s.slots t.slots × (s.next ≤ t.next)
+IsTold PortsFail from upto act s reply t = IsToldOfPlaces PortsFail from upto act s reply t × InPins reply s.pins t.pins × (s.next ≤ t.next)
 
 -- where numbers may have been drawn before
 abbrev pub IsToldBehind : Type 0 → ℕ → ℕ → Act → Standing → Reply → Standing → Type 0
@@ -114,19 +117,39 @@ AreTold PortsFail from upto (order ∷ orders) s (line.Answer caller reply ∷ l
 AreTold PortsFail from upto [] s (line ∷ lines) t = ⊥
 AreTold PortsFail from upto (order ∷ orders) s [] t = ⊥
 
--- phase after phase
-abbrev pub AreToldThrough : Type 0 → ℕ → ℕ → List (List Order) → Standing → List (List Line) → Standing → Type 0
-AreToldThrough PortsFail from upto [] s [] t = t ≡ s
-AreToldThrough PortsFail from upto (orders ∷ phases) s (lines ∷ more) t =
-    (middle : Standing) × AreTold PortsFail from upto orders s lines middle × AreToldThrough PortsFail from upto phases middle more t
-AreToldThrough PortsFail from upto [] s (lines ∷ more) t = ⊥
-AreToldThrough PortsFail from upto (orders ∷ phases) s [] t = ⊥
+-- whose line it is
+abbrev pub caller_in : Line → ℕ
+caller_in (line.Answer caller reply) = caller
 
--- The lines answer these phases from some number of places on, of which none has failed, where no slot holds a pin, by a clock with the configuration's threshold.
-pub record IsPlausible (PortsFail : Type 0) (config : Fields) (from upto : ℕ) (phases : List (List Order)) (lines : List (List Line)) : Type 0 where
+-- The lines of a phase are printed caller by caller, and in one order, in which each caller's stand as they are printed, each is answered where it stands.
+pub record IsPhaseTold (PortsFail : Type 0) (from upto : ℕ) (orders : List Order) (s : Standing) (lines turned : List Line) (t : Standing) : Type 0 where
+  pub callers : map caller_in lines ≡ map (λ order. order.caller) (printed orders)
+  pub order : AreTurned lines turned
+  -- the orders in that order
+  pub asked : List Order
+  pub are : (caller : ℕ) → orders_by caller asked ≡ orders_by caller orders
+  pub told : AreTold PortsFail from upto asked s turned t
+
+-- phase after phase
+abbrev pub AreToldThrough : Type 0 → ℕ → ℕ → List (List Order) → Standing → List (List Line) → List (List Line) → Standing → Type 0
+AreToldThrough PortsFail from upto [] s [] [] t = t ≡ s
+AreToldThrough PortsFail from upto (orders ∷ phases) s (lines ∷ more) (turned ∷ rest) t =
+    (middle : Standing) × IsPhaseTold PortsFail from upto orders s lines turned middle × AreToldThrough PortsFail from upto phases middle more rest t
+AreToldThrough PortsFail from upto [] s [] (turned ∷ rest) t = ⊥
+AreToldThrough PortsFail from upto [] s (lines ∷ more) rest t = ⊥
+AreToldThrough PortsFail from upto (orders ∷ phases) s [] rest t = ⊥
+AreToldThrough PortsFail from upto (orders ∷ phases) s (lines ∷ more) [] t = ⊥
+
+-- Over all phases the lines of a caller answer its orders as its slots allow, of which none holds a pin at first.
+abbrev pub AreSlottedFor : List (List Order) → List (List Line) → ℕ → Type 0
+AreSlottedFor phases lines caller = (held : Slots) × AreInSlots (orders_by caller (flat_map (λ orders. orders) phases)) no_slots (filter (is_of caller) (all_of lines)) held
+
+-- The lines, in this order, answer these phases from some number of places on, of which none has failed, where no pin was made, by a clock with the configuration's threshold.
+pub record IsPlausible (PortsFail : Type 0) (config : Fields) (from upto : ℕ) (phases : List (List Order)) (lines turned : List (List Line)) : Type 0 where
   pub opened : Standing
   pub threshold : opened.clock.threshold ≡ config.threshold
   pub runs : opened.failed ≡ None
-  pub unpinned : opened.slots ≡ no_slots
+  pub unpinned : opened.pins ≡ no_pins
   pub end : Standing
-  pub told : AreToldThrough PortsFail from upto phases opened lines end
+  pub told : AreToldThrough PortsFail from upto phases opened lines turned end
+  pub slots : (caller : ℕ) → AreSlottedFor phases lines caller

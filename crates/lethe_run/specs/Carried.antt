@@ -150,17 +150,17 @@ pub record IsSeen (config : Fields) (from : ℕ) (h : History) (finish : Seen) (
   pub within : told.0 ≤ length h
   pub unless : failed_in (take told.0 h) ≡ None → IsSeenOn config from h finish told
 
--- On a disk that was left for a history and a change in one configuration, the lines answer the phases over a store of another, which may be the same. The history
+-- On a disk that was left for a history and a change in one configuration, the lines, in this order, answer the phases over a store of another, which may be the same. The history
 -- that was opened is the first, or that with the change carried out, whichever the directory is kept for. Up to the moment at which the store was opened a crash
 -- leaves what the disk was left for, or a new store where there was no gate, and from it on what is kept for a prefix of what a crash may make of the last history that
 -- is not shorter than the opened one. At the end the disk is left for the last history, and unless a change failed it is of the configuration and clean: each object
 -- is a spelling, and none spells a value that was never put or was erased a threshold ago.
-pub record IsCarriedOut (config : Fields) (course : Course) (start finish : Seen) (kept : Fields) (left : History) (change : Option Change) (phases : List (List Order)) (lines : List (List Line)) : Type 0 where
+pub record IsCarriedOut (config : Fields) (course : Course) (start finish : Seen) (kept : Fields) (left : History) (change : Option Change) (phases : List (List Order)) (lines turned : List (List Line)) : Type 0 where
   pub opened : History
   pub either : IsHistoryOr left change opened
   pub was : IsKept config start.directory opened
   pub history : History
-  pub served : AreServed course opened phases lines history
+  pub served : AreServed course opened phases lines turned history
   pub moment : ℕ
   pub any_moment : GoesThen (IsKeptInOpening kept config left change start.directory) (IsKeptFor config opened history) moment start finish
   -- from the end of each phase on no crash loses what its lines answer, and up to there none leaves a change of a later one

@@ -1,5 +1,5 @@
 -- How a run may end, what it has written then, and what it leaves on the disk.
-use Rattle.std.specs.Prelude.{◌≡◌, ◌⊎◌, ◌≤◌, ◌<◌, ◌+◌, ◌-◌, ℕ, suc, Bool, true, false, List, [], ◌∷◌, ◌++◌, length, take, slice_get, sum_by, Option, Some, None, IfSome, IsSome, IsOk, IsErr, Ok, Err, Contains}
+use Rattle.std.specs.Prelude.{◌≡◌, ◌⊎◌, ◌≤◌, ◌<◌, ◌+◌, ◌-◌, ℕ, suc, Bool, true, false, List, [], ◌∷◌, ◌++◌, filter, length, take, slice_get, sum_by, Option, Some, None, IfSome, IsSome, IsOk, IsErr, Ok, Err, Contains}
 use Rattle.std.specs.Io.KnownBytes.{Appends, Keeps}
 use Rattle.lethe_wire.specs.Causes.{AppendsFront}
 use Rattle.lethe_base.specs.Counts.{Rose}
@@ -29,7 +29,7 @@ use Rattle.lethe_run.specs.Asked.{config_of}
 use Rattle.lethe_run.specs.Anywhere.{IsPlausible}
 use Rattle.lethe_run.specs.Carried.{IsCarriedOut}
 use Rattle.lethe_run.specs.Printed.{bad_words, bad_line, lines_text, open_line}
-use Rattle.lethe_run.specs.Transcript.{Course, course, most_of_a_change, text_of, has_refusal}
+use Rattle.lethe_run.specs.Transcript.{Course, course, orders_by, most_of_a_change, text_of, has_refusal}
 
 -- What a run was given, and what it left. Of the source and the sink: what the one had and the other has taken, where they tell it, and
 -- whether their counts of faults rose. Of the disk: what it was and is, where its kind tells it, its counts of faults, and whether its ports can fail.
@@ -76,10 +76,12 @@ OnScript run P = (phases : List (List Order)) × IfSome run.source (λ bytes. sc
 abbrev pub course_of : Run → Fields → ℕ → Course
 course_of run config next = course run.PortsFail (record { config = config; faults = run.faults_before; next = next; moment = run.start.moment }) run.faults run.finish.moment
 
--- The lines answer these phases as they may on any disk; and on one that tells what it holds they do so over a store of the configuration, and the disk is left so.
+-- There is one order of each phase's lines, in which they answer these phases as they may on any disk; and on one that tells what it holds they do so over a store of the configuration, and
+-- the disk is left so.
 pub record Carries (run : Run) (config : Fields) (phases : List (List Order)) (lines : List (List Line)) : Type 0 where
-  pub told : IsPlausible run.PortsFail config run.faults_before run.faults phases lines
-  pub left : OnLeft run (λ kept left change. (next : ℕ) → IsNextNumber run.start.directory next → IsCarriedOut config (course_of run config next) run.start run.finish kept left change phases lines)
+  pub turned : List (List Line)
+  pub told : IsPlausible run.PortsFail config run.faults_before run.faults phases lines turned
+  pub left : OnLeft run (λ kept left change. (next : ℕ) → IsNextNumber run.start.directory next → IsCarriedOut config (course_of run config next) run.start run.finish kept left change phases lines turned)
 
 -- the directory shows no damage and no other configuration
 abbrev pub IsSoundFor : Run → Fields → Type 0
@@ -102,19 +104,24 @@ pub record StoppedBehind (run : Run) (config : Fields) (text : Bytes) : Type 0 w
   pub whole : (middle : Option Bytes) × Appends run.taken_before middle (text_of before) × AppendsFront middle run.taken (lines_text last)
   pub sound : IsSoundFor run config
 
--- whole phases, and of the next one the first orders
+-- of each caller the first orders
+abbrev pub IsFrontByCaller : List Order → List Order → Type 0
+IsFrontByCaller orders part = (caller : ℕ) → (rest : List Order) × (orders_by caller orders ≡ orders_by caller part ++ rest)
+
+-- whole phases, and of the next one the first orders of each caller
 pub record IsFront (phases front : List (List Order)) : Type 0 where
   pub count : ℕ
+  pub orders : List Order
   pub part : List Order
-  pub rest : List Order
-  pub there : slice_get phases count ≡ Some (part ++ rest)
+  pub there : slice_get phases count ≡ Some orders
+  pub cut : IsFrontByCaller orders part
   pub is : front ≡ take count phases ++ part ∷ []
 
 -- none, or such a front
 abbrev pub IsBegun : List (List Order) → List (List Order) → Type 0
 IsBegun phases front = (front ≡ []) ⊎ IsFront phases front
 
--- the script was carried out up to an order for which there was no memory, or none of it was
+-- the script was carried out up to a phase in which there was no memory for an order of some caller, who answers no further line, or none of it was
 pub record StoppedInside (run : Run) (config : Fields) : Type 0 where
   pub lines : List (List Line)
   pub script : OnScript run (λ phases. (front : List (List Order)) × IsBegun phases front × Carries run config front lines)

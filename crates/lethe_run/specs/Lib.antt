@@ -1,4 +1,5 @@
 pub mod Printed
+pub mod Pins
 pub mod Slots
 pub mod Transcript
 pub mod Anywhere
@@ -13,4 +14,5 @@ pub mod Refusals
 pub mod Holding
 pub mod Serving
 pub mod Rows
+pub mod Callers
 pub mod Scripts

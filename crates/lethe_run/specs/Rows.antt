@@ -15,7 +15,7 @@ use Rattle.lethe_run.specs.declared.reply.Reply.TheVariants.{Done, Stopped}
 use Rattle.lethe_run.specs.Anywhere.{AreTold, standing_of}
 use Rattle.lethe_run.specs.Holding.{AreShown, slots_of}
 use Rattle.lethe_run.specs.Serving.{IsOn, IsPhase, Point}
-use Rattle.lethe_run.specs.Slots.{Slots}
+use Rattle.lethe_run.specs.Slots.{AreInSlots, Slots}
 use Rattle.lethe_run.specs.Transcript.{Start, places_behind}
 
 -- the act that asks for a change
@@ -40,10 +40,11 @@ done_lines caller count done = map (λ place. line.Answer caller (Done place)) (
 abbrev pub stopped_lines : ℕ → ℕ → ℕ → List Line
 stopped_lines caller at many = replicate many (line.Answer caller (Stopped at))
 
--- Orders were answered by these lines, on any disk and on one that tells what it holds, and so the store and what the slots hold went on.
+-- Orders of a caller were answered by these lines, on any disk and on one that tells what it holds, and so the store and what its slots hold went on.
 pub record IsStretch {D Page Port : Type 0} {kind : Ghosts D Page Port} (Tells PortsFail : Type 0) (orders : List Order) (lines : List Line)
     (old : View) (was : List (Option (Snapshot D Page Port kind))) (new : View) (held : List (Option (Snapshot D Page Port kind))) : Type 0 where
-  pub told : AreTold PortsFail old.faults new.faults orders (standing_of old (slots_of old was)) lines (standing_of new (slots_of new held))
+  pub told : AreTold PortsFail old.faults new.faults orders (standing_of old) lines (standing_of new)
+  pub slots : AreInSlots orders (slots_of was) lines (slots_of held)
   pub served : Tells → (begin : Start) (from : Point) (start : History) → IsOn begin from start old → AreShown start was
       → (h : History) × IsPhase PortsFail begin start h orders lines old new × AreShown h held
   pub faults : old.faults ≤ new.faults
@@ -63,7 +64,8 @@ pub record HasMade (Tells PortsFail : Type 0) (caller : ℕ) (changes left : Lis
   pub more : List Line
   pub are : changes ≡ front ++ left
   pub lines : behind ≡ before ++ more
-  pub told : (slots : Slots) → AreTold PortsFail old.faults new.faults (orders_of caller front) (standing_of old slots) more (standing_of new slots)
+  pub told : AreTold PortsFail old.faults new.faults (orders_of caller front) (standing_of old) more (standing_of new)
+  pub slots : (slots : Slots) → AreInSlots (orders_of caller front) slots more slots
   pub served : Tells → (begin : Start) (from : Point) (start : History) → IsOn begin from start old → (h : History) × IsPhase PortsFail begin start h (orders_of caller front) more old new
   pub faults : old.faults ≤ new.faults
   pub face : face_of new ≡ face_of old

@@ -10,12 +10,11 @@ use Rattle.lethe_run.specs.declared.reply.Line.{Line}
 use Rattle.lethe_run.specs.declared.reason.Reason.{Reason}
 use Rattle.lethe_run.specs.declared.reason.Reason.TheVariants.{Nothing, Words, Source, Sink, NotOpened, NoMemory, Answer}
 use Rattle.lethe_run.specs.declared.reason.Reason.TheVariants as reason
-use Rattle.lethe_run.specs.Anywhere.{AreToldThrough, Standing, standing_of}
+use Rattle.lethe_run.specs.Anywhere.{AreSlottedFor, AreToldThrough, Standing, standing_of}
 use Rattle.lethe_run.specs.Ends.{IsBegun}
 use Rattle.lethe_run.specs.Printed.{lines_text}
 use Rattle.lethe_run.specs.Refusals.{IsFirstOr, all_of}
 use Rattle.lethe_run.specs.Serving.{IsOn, IsCarried, Point}
-use Rattle.lethe_run.specs.Slots.{no_slots}
 use Rattle.lethe_run.specs.Transcript.{Start, course, text_of}
 
 -- the lines answer these phases, over each history for which the store stands, from each start of the run on
@@ -23,9 +22,10 @@ abbrev pub Serves : Type 0 → Type 0 → View → Seen → ℕ → List (List O
 Serves Tells PortsFail start finish now phases lines =
     Tells → (begin : Start) (from : Point) → IsOn begin from from.history start → IsCarried (course PortsFail begin now finish.moment) begin from phases lines start.disk finish
 
--- the lines answer these phases as they may on any disk, where no slot holds a pin at first
+-- the lines answer these phases as they may on any disk, one after another as they are printed
 abbrev pub IsToldFrom : Type 0 → View → ℕ → List (List Order) → List (List Line) → Type 0
-IsToldFrom PortsFail start now phases lines = (end : Standing) × AreToldThrough PortsFail start.faults now phases (standing_of start no_slots) lines end
+IsToldFrom PortsFail start now phases lines =
+    ((end : Standing) × AreToldThrough PortsFail start.faults now phases (standing_of start) lines lines end) × ((caller : ℕ) → AreSlottedFor phases lines caller)
 
 -- all phases were answered, and this is the number of the first line that tells of a change that failed or wasn't made, or of a read that wasn't answered, if one does
 pub record All (Tells PortsFail : Type 0) (start : View) (finish : Seen) (now : ℕ) (old new : Option Bytes) (phases : List (List Order)) (refused : Option ℕ) : Type 0 where

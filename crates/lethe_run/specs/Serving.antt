@@ -1,6 +1,6 @@
 -- What carrying out orders over a store comes to.
-use Rattle.std.specs.Prelude.{◌≡◌, ◌≤◌, ◌↔◌, ℕ, List, ◌++◌, length, All, IfSome, None}
-use Rattle.lethe_base.specs.History.{History, AreDone, after}
+use Rattle.std.specs.Prelude.{◌≡◌, ◌≤◌, ◌↔◌, ℕ, List, ◌++◌, filter, filter_map, length, All, IfSome, IsPermutation, None, ◌-◌}
+use Rattle.lethe_base.specs.History.{History, AreDone, IsLegal, after}
 use Rattle.lethe_disk.specs.Directory.{Directory}
 use Rattle.lethe_disk.specs.Disk.{Seen}
 use Rattle.lethe_cert.specs.declared.certificate.Certificate.{Certificate}
@@ -15,7 +15,7 @@ use Rattle.lethe_script.specs.declared.order.Order.{Order}
 use Rattle.lethe_run.specs.declared.reply.Line.{Line}
 use Rattle.lethe_run.specs.declared.reply.Reply.{Reply}
 use Rattle.lethe_run.specs.Carried.{AreLasting, HasConfig, IsBorneOut, IsSeen, certificate_in, certificates_in, failed_in, looked_in, looks_in}
-use Rattle.lethe_run.specs.Transcript.{Course, Start, course, Answers, Follows, IsServed, AreServed}
+use Rattle.lethe_run.specs.Transcript.{Course, Start, course, Answered, Answers, Follows, InTurn, Sees, AreServed, is_of, place_of, places_behind}
 
 -- a history for which a store stood, and a moment of its disk from which on each crash has it
 pub record Point : Type 0 where
@@ -66,17 +66,26 @@ abbrev pub IsLookedUp : Type 0 → Start → ℕ → ℕ → History → ℕ →
 IsLookedUp PortsFail begin faults moment h caller act reply =
     Answers (record { history = h; course = course PortsFail begin faults moment }) caller act reply × Follows (course PortsFail begin faults moment) (length h) reply (length h) × (certificate_in reply ≡ None) × (looked_in reply ≡ None)
 
+-- From the history `start` on, orders were answered by these lines one after another, and then the history is h.
+pub record IsServedInTurn (course : Course) (start : History) (orders : List Order) (lines : List Line) (h : History) : Type 0 where
+  pub begins : (added : History) × (h ≡ start ++ added)
+  pub legal : IsLegal h
+  pub answered : Answered (record { history = h; course = course }) orders lines
+  pub once : IsPermutation (places_behind (length start) (length h - length start)) (filter_map place_of lines)
+  pub seen : (caller : ℕ) → Sees (length start) (length h) (filter (is_of caller) lines)
+  pub alone : InTurn course (length start) lines (length h)
+
 -- the orders were answered by the lines, and the history went on from h to g
 pub record IsPhase (PortsFail : Type 0) (begin : Start) (h g : History) (orders : List Order) (lines : List Line) (old new : View) : Type 0 where
-  pub served : IsServed (course PortsFail begin new.faults new.disk.moment) h orders lines g
+  pub served : IsServedInTurn (course PortsFail begin new.faults new.disk.moment) h orders lines g
   pub certified : All (IsBorneOn begin g new) (certificates_in lines)
   pub seen : All (IsSeen begin.config begin.moment g new.disk) (looks_in lines)
   pub goes : Advances begin h g old new
 
--- the phases were answered by the lines, from the opened history on
+-- the phases were answered by the lines, one after another as they are printed, from the opened history on
 pub record IsCarried (course : Course) (begin : Start) (from : Point) (phases : List (List Order)) (lines : List (List Line)) (start finish : Seen) : Type 0 where
   pub history : History
-  pub served : AreServed course from.history phases lines history
+  pub served : AreServed course from.history phases lines lines history
   pub calls : Continues start finish
   pub each : (m : ℕ) (c : Directory) → from.moment ≤ m → m ≤ finish.moment → finish.left m c → IsKeptFor begin.config from.history history c
   pub lasting : AreLasting begin.config from.history history finish from.moment lines

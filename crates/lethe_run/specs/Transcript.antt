@@ -220,6 +220,18 @@ Answers told caller act (Damaged page) = ⊥
 abbrev pub Lines : Type 0
 Lines = List Line
 
+-- the orders of a caller
+abbrev pub orders_by : ℕ → List Order → List Order
+orders_by caller orders = filter (λ order. order.caller == caller) orders
+
+-- the callers that a script may have
+abbrev pub callers : List ℕ
+callers = 1 ∷ 2 ∷ 3 ∷ 4 ∷ 5 ∷ 6 ∷ 7 ∷ 8 ∷ []
+
+-- the orders of a phase as their lines are printed: caller by caller, and each one's as they stand in the script
+abbrev pub printed : List Order → List Order
+printed orders = flat_map (λ caller. orders_by caller orders) callers
+
 -- a line for each order, which answers its caller
 abbrev pub Answered : Told → List Order → List Line → Type 0
 Answered told [] [] = Unit {0}
@@ -342,23 +354,30 @@ abbrev pub InTurn : Course → ℕ → List Line → ℕ → Type 0
 InTurn course n [] m = m ≡ n
 InTurn course n (line.Answer caller reply ∷ lines) m = (next : ℕ) × Follows course n reply next × InTurn course next lines m
 
--- From the history `start` on, the orders of one phase may be answered by these lines, and then the history is h.
-pub record IsServed (course : Course) (start : History) (orders : List Order) (lines : List Line) (h : History) : Type 0 where
+-- these lines in some order, in which those of each caller stand as they are printed
+abbrev pub AreTurned : List Line → List Line → Type 0
+AreTurned lines turned = (caller : ℕ) → filter (is_of caller) turned ≡ filter (is_of caller) lines
+
+-- From the history `start` on, the orders of one phase may be answered by these lines, and then the history is h. There is one order of the lines, in which those of each caller stand as
+-- they are printed, and each is answered at the place where it stands in it.
+pub record IsServed (course : Course) (start : History) (orders : List Order) (lines turned : List Line) (h : History) : Type 0 where
   pub begins : (added : History) × (h ≡ start ++ added)
   pub legal : IsLegal h
-  pub answered : Answered (record { history = h; course = course }) orders lines
+  pub answered : Answered (record { history = h; course = course }) (printed orders) lines
   -- the changes that were added are those that the lines answer, each once
   pub once : IsPermutation (places_behind (length start) (length h - length start)) (filter_map place_of lines)
   pub seen : (caller : ℕ) → Sees (length start) (length h) (filter (is_of caller) lines)
-  -- there is one caller, so each line is answered at the place at which it stands
-  pub alone : InTurn course (length start) lines (length h)
+  pub order : AreTurned lines turned
+  pub turns : InTurn course (length start) turned (length h)
 
 -- phase after phase
-abbrev pub AreServed : Course → History → List (List Order) → List (List Line) → History → Type 0
-AreServed course start [] [] h = h ≡ start
-AreServed course start (orders ∷ phases) (lines ∷ more) h = (middle : History) × IsServed course start orders lines middle × AreServed course middle phases more h
-AreServed course start [] (lines ∷ more) h = ⊥
-AreServed course start (orders ∷ phases) [] h = ⊥
+abbrev pub AreServed : Course → History → List (List Order) → List (List Line) → List (List Line) → History → Type 0
+AreServed course start [] [] [] h = h ≡ start
+AreServed course start (orders ∷ phases) (lines ∷ more) (turned ∷ rest) h = (middle : History) × IsServed course start orders lines turned middle × AreServed course middle phases more rest h
+AreServed course start [] [] (turned ∷ rest) h = ⊥
+AreServed course start [] (lines ∷ more) rest h = ⊥
+AreServed course start (orders ∷ phases) [] rest h = ⊥
+AreServed course start (orders ∷ phases) (lines ∷ more) [] h = ⊥
 
 -- the text of all phases
 abbrev pub text_of : List (List Line) → Bytes

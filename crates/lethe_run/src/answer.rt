@@ -1,5 +1,5 @@
 //! Answering one order.
-ghost use Rattle.std.specs.Prelude.{◌≡◌, ◌<◌, ◌≤◌, ◌+◌, ℕ, IfErr, IsSome, MatchResult, Ok, OnOk, Some};
+ghost use Rattle.std.specs.Prelude.{◌≡◌, ◌<◌, ◌≤◌, ◌+◌, ℕ, IfErr, IsSome, MatchResult, Ok, OnOk, Some, length};
 ghost use Rattle.lethe_base.specs.History.{History};
 ghost use Rattle.lethe_base.specs.Limits.{max_place};
 ghost use Rattle.lethe_read.specs.Refusals.{IsReadRefusal};
@@ -7,7 +7,8 @@ ghost use Rattle.lethe_core.specs.Running.{IsSound};
 ghost use Rattle.lethe_core.specs.View.{view_of};
 ghost use Rattle.lethe_script.specs.Slots.{held_behind};
 ghost use Rattle.lethe_run.specs.Anywhere.{IsLater, IsTold, standing_of};
-ghost use Rattle.lethe_run.specs.Holding.{AreShown, HoldsPins, held_in, slots_of};
+ghost use Rattle.lethe_run.specs.Holding.{AreShown, held_in, slots_of};
+ghost use Rattle.lethe_run.specs.Slots.{InSlots};
 ghost use Rattle.lethe_run.specs.declared.reply.Reply.TheVariants as reply;
 ghost use Rattle.lethe_run.specs.Replies.{IsOfChange, IsOfTick, refusal_of, reply_of, tick_reply_of, unread_of};
 ghost use Rattle.lethe_run.specs.Serving.{IsOn, IsAnswered, Advances, Point};
@@ -34,15 +35,16 @@ pub(crate) fn answer<D: Disk>(
     requires sound { IsSound D.tells (view_of engine.old.core) }
     requires rounds { engine.old.core.begun.rounds < max_place }
     requires made { engine.old.core.pins.made < max_place }
-    requires pins { HoldsPins (view_of engine.old.core) (slots_of (view_of engine.old.core) slots.old.held.items) }
+    requires ten { length slots.old.held.items ≡ 10 }
     // The act finds its slot as it needs it.
     requires slotted { IsSome (held_behind act (held_in slots.old.held.items)) }
     ensures sound { IsSound D.tells (view_of engine.new.core) }
     // On any disk:
     ensures told { MatchResult result
-        (λ reply. IsTold D.ports_fail (D.faults engine.old.core.disk) (D.faults engine.new.core.disk) act (standing_of (view_of engine.old.core) (slots_of (view_of engine.old.core) slots.old.held.items))
-        reply (standing_of (view_of engine.new.core) (slots_of (view_of engine.new.core) slots.new.held.items)))
-        (λ why. IsLater (standing_of (view_of engine.old.core) (slots_of (view_of engine.old.core) slots.old.held.items)) (standing_of (view_of engine.new.core) (slots_of (view_of engine.new.core) slots.new.held.items))) }
+        (λ reply. IsTold D.ports_fail (D.faults engine.old.core.disk) (D.faults engine.new.core.disk) act (standing_of (view_of engine.old.core))
+        reply (standing_of (view_of engine.new.core)))
+        (λ why. IsLater (standing_of (view_of engine.old.core)) (standing_of (view_of engine.new.core))) }
+    ensures slots { MatchResult result (λ reply. InSlots act reply (slots_of slots.old.held.items) (slots_of slots.new.held.items)) (λ why. slots_of slots.new.held.items ≡ slots_of slots.old.held.items) }
     ensures served { D.tells → (begin : Start) (from : Point) (h : History) (caller : ℕ)
         → IsOn begin from h (view_of engine.old.core) → AreShown h slots.old.held.items
         → MatchResult result
@@ -56,7 +58,7 @@ pub(crate) fn answer<D: Disk>(
     ensures rounds { engine.new.core.begun.rounds ≤ engine.old.core.begun.rounds + 1 }
     // At most one pin was made.
     ensures made { engine.new.core.pins.made ≤ engine.old.core.pins.made + 1 }
-    ensures pins { HoldsPins (view_of engine.new.core) (slots_of (view_of engine.new.core) slots.new.held.items) }
+    ensures ten { length slots.new.held.items ≡ 10 }
     ensures slotted { OnOk result (held_behind act (held_in slots.old.held.items) ≡ Some (held_in slots.new.held.items)) }
     // On any disk a page is told as damaged only where a fetch was made.
     ensures fetched { (no : ℕ) → result ≡ Ok (reply.Damaged no) → D.fetches port.old < D.fetches port.new }

@@ -6,7 +6,7 @@ ghost use Rattle.lethe_core.specs.View.{view_of};
 ghost use Rattle.lethe_script.specs.Slots.{held_behind};
 ghost use Rattle.lethe_script.specs.declared.order.Order.{Order};
 ghost use Rattle.lethe_engine.specs.Asked.{Asked};
-ghost use Rattle.lethe_run.specs.Holding.{HoldsPins, held_in, slots_of};
+ghost use Rattle.lethe_run.specs.Holding.{held_in};
 ghost use Rattle.lethe_run.specs.Rows.{HasMade, HasServed, IsStretch, act_of, done_lines, orders_of, stopped_lines, unlined};
 ghost use Rattle.lethe_run.specs.Transcript.{change_of};
 
@@ -41,7 +41,7 @@ pub(crate) fn serve_order<D: Disk>(
     requires sound { IsSound D.tells (view_of engine.old.core) }
     requires rounds { engine.old.core.begun.rounds + length queue.old.changes.items < max_place }
     requires made { engine.old.core.pins.made + length queue.old.changes.items < max_place }
-    requires pins { HoldsPins (view_of engine.old.core) (slots_of (view_of engine.old.core) slots.old.held.items) }
+    requires ten { length slots.old.held.items ≡ 10 }
     // The order finds its slot as it needs it.
     requires slotted { IsSome (held_behind order.act (held_in slots.old.held.items)) }
     requires room { vec_len lines.old + length queue.old.changes.items < vec_capacity lines.old }
@@ -51,7 +51,7 @@ pub(crate) fn serve_order<D: Disk>(
         × (lines.new.items ≡ lines.old.items ++ more) × IsStretch D.tells D.ports_fail part more (view_of engine.old.core) slots.old.held.items (view_of engine.new.core) slots.new.held.items }
     ensures rounds { engine.new.core.begun.rounds + length queue.new.changes.items ≤ engine.old.core.begun.rounds + length queue.old.changes.items + 1 }
     ensures made { engine.new.core.pins.made + length queue.new.changes.items ≤ engine.old.core.pins.made + length queue.old.changes.items + 1 }
-    ensures pins { HoldsPins (view_of engine.new.core) (slots_of (view_of engine.new.core) slots.new.held.items) }
+    ensures ten { length slots.new.held.items ≡ 10 }
     ensures slotted { IsTrue result → held_behind order.act (held_in slots.old.held.items) ≡ Some (held_in slots.new.held.items) }
     ensures room { vec_len lines.new + length queue.new.changes.items ≤ vec_len lines.old + length queue.old.changes.items + 1 }
     ensures capacity { vec_capacity lines.old ≤ vec_capacity lines.new }
@@ -90,7 +90,7 @@ fn serve_act<D: Disk>(
     requires sound { IsSound D.tells (view_of engine.old.core) }
     requires rounds { engine.old.core.begun.rounds < max_place }
     requires made { engine.old.core.pins.made < max_place }
-    requires pins { HoldsPins (view_of engine.old.core) (slots_of (view_of engine.old.core) slots.old.held.items) }
+    requires ten { length slots.old.held.items ≡ 10 }
     requires slotted { IsSome (held_behind act (held_in slots.old.held.items)) }
     requires room { vec_len lines.old < vec_capacity lines.old }
     ensures sound { IsSound D.tells (view_of engine.new.core) }
@@ -98,7 +98,7 @@ fn serve_act<D: Disk>(
         × IsStretch D.tells D.ports_fail (if result then record { line = 0; caller = caller; act = act } ∷ [] else []) more (view_of engine.old.core) slots.old.held.items (view_of engine.new.core) slots.new.held.items }
     ensures rounds { engine.new.core.begun.rounds ≤ engine.old.core.begun.rounds + 1 }
     ensures made { engine.new.core.pins.made ≤ engine.old.core.pins.made + 1 }
-    ensures pins { HoldsPins (view_of engine.new.core) (slots_of (view_of engine.new.core) slots.new.held.items) }
+    ensures ten { length slots.new.held.items ≡ 10 }
     ensures slotted { IsTrue result → held_behind act (held_in slots.old.held.items) ≡ Some (held_in slots.new.held.items) }
     ensures room { vec_len lines.new ≤ vec_len lines.old + 1 }
     ensures capacity { vec_capacity lines.old ≤ vec_capacity lines.new }
@@ -124,7 +124,7 @@ pub(crate) fn serve_row<D: Disk>(
     requires sound { IsSound D.tells (view_of engine.old.core) }
     requires rounds { engine.old.core.begun.rounds + length queue.old.changes.items ≤ max_place }
     requires made { engine.old.core.pins.made + length queue.old.changes.items ≤ max_place }
-    requires pins { HoldsPins (view_of engine.old.core) (slots_of (view_of engine.old.core) slots.old.held.items) }
+    requires ten { length slots.old.held.items ≡ 10 }
     requires room { vec_len lines.old + length queue.old.changes.items ≤ vec_capacity lines.old }
     ensures sound { IsSound D.tells (view_of engine.new.core) }
     ensures served { (left : List Asked) × (IsTrue result → left ≡ [])
@@ -132,7 +132,7 @@ pub(crate) fn serve_row<D: Disk>(
     ensures empty { IsTrue result → queue.new.changes.items ≡ [] }
     ensures rounds { engine.new.core.begun.rounds + length queue.new.changes.items ≤ engine.old.core.begun.rounds + length queue.old.changes.items }
     ensures made { engine.new.core.pins.made + length queue.new.changes.items ≤ engine.old.core.pins.made + length queue.old.changes.items }
-    ensures pins { HoldsPins (view_of engine.new.core) (slots_of (view_of engine.new.core) slots.new.held.items) }
+    ensures ten { length slots.new.held.items ≡ 10 }
     ensures slotted { IsTrue result → held_in slots.new.held.items ≡ held_in slots.old.held.items }
     ensures room { vec_len lines.new + length queue.new.changes.items ≤ vec_len lines.old + length queue.old.changes.items }
     ensures capacity { vec_capacity lines.old ≤ vec_capacity lines.new }

@@ -6,19 +6,18 @@ ghost use Rattle.lethe_base.specs.Counts.{Rose};
 ghost use Rattle.lethe_base.specs.Limits.{max_place};
 ghost use Rattle.lethe_core.specs.Running.{IsSound};
 ghost use Rattle.lethe_core.specs.View.{view_of};
-ghost use Rattle.lethe_script.specs.Slots.{AreSlotted};
-ghost use Rattle.lethe_run.specs.Holding.{HoldsPins};
+ghost use Rattle.lethe_run.specs.Callers.{AreSlottedByCaller};
+ghost use Rattle.lethe_run.specs.Holding.{held_by};
 ghost use Rattle.lethe_run.specs.Refusals.{IsFirstOr};
 ghost use Rattle.lethe_run.specs.Scripts.{ScriptEnds, IsCutBy, reason_for};
 ghost use Rattle.lethe_run.specs.Printed.{lines_text};
-ghost use Rattle.lethe_run.specs.Slots.{no_slots};
 ghost use Rattle.lethe_run.specs.Transcript.{Lines, is_refusal};
 
 use crate::print::{Spelled, spell};
 use crate::reason::Reason;
 use crate::reply::{Line, Reply};
 use crate::serve::{Served, serve_phase};
-use crate::slots::Slots;
+use crate::slots::CallerSlots;
 use lethe_base::{List, NoMemory};
 use lethe_disk::Disk;
 use lethe_engine::Engine;
@@ -36,18 +35,20 @@ pub(crate) fn serve_script<K: Sink, D: Disk>(
     requires sound { IsSound D.tells (view_of engine.core) }
     requires rounds { engine.core.begun.rounds + sum_by length phases ≤ max_place }
     requires made { engine.core.pins.made + sum_by length phases ≤ max_place }
-    // No pin is held, and each order finds its slot as it needs it.
-    requires pins { HoldsPins (view_of engine.core) no_slots }
-    requires slotted { AreSlotted (flat_map (λ orders. orders) phases) }
+    // Each order finds its slot as it needs it, where none holds a pin at first.
+    requires slotted { AreSlottedByCaller (flat_map (λ orders. orders) phases) }
     ensures ends { ScriptEnds D.tells D.ports_fail (view_of engine.core) (D.seen result.1) (D.faults result.1)
         (K.taken sink.old) (K.taken sink.new) (Rose (K.faults sink.old) (K.faults sink.new)) phases result.0 }
     ensures faults { D.faults engine.core.disk ≤ D.faults result.1 }
 {
     match engine.new_port(alloc) {
-        Ok(port) => match Slots::new(alloc) {
-            Ok(slots) => serve_phases(alloc, sink, phases, engine, port, slots),
-            Err(NoMemory) => (Reason::NoMemory, engine.into_disk()),
-        },
+        Ok(port) => {
+            let mut slots = CallerSlots::none(alloc);
+            match slots.fill(alloc) {
+                Ok(()) => serve_phases(alloc, sink, phases, engine, port, slots),
+                Err(NoMemory) => (Reason::NoMemory, slots.hand_back(engine)),
+            }
+        }
         Err(NoMemory) => (Reason::NoMemory, engine.into_disk()),
     }
 }
@@ -59,15 +60,14 @@ fn serve_phases<K: Sink, D: Disk>(
     phases: List<List<Order>>,
     mut engine: Engine<D>,
     mut port: D::Port,
-    mut slots: Slots<D>,
+    mut slots: CallerSlots<D>,
 ) -> (Reason, D)
     requires sound { IsSound D.tells (view_of engine.core) }
     requires rounds { engine.core.begun.rounds + sum_by length phases ≤ max_place }
     requires made { engine.core.pins.made + sum_by length phases ≤ max_place }
-    // No pin is held, and each order finds its slot as it needs it.
-    requires pins { HoldsPins (view_of engine.core) no_slots }
-    requires slotted { AreSlotted (flat_map (λ orders. orders) phases) }
-    requires none { slots.held.items ≡ replicate 10 None }
+    // Each order finds its slot as it needs it, where none holds a pin at first.
+    requires slotted { AreSlottedByCaller (flat_map (λ orders. orders) phases) }
+    requires none { held_by slots.of.items ≡ replicate 8 (replicate 10 None) }
     ensures ends { ScriptEnds D.tells D.ports_fail (view_of engine.core) (D.seen result.1) (D.faults result.1)
         (K.taken sink.old) (K.taken sink.new) (Rose (K.faults sink.old) (K.faults sink.new)) phases result.0 }
     ensures faults { D.faults engine.core.disk ≤ D.faults result.1 }

@@ -1,5 +1,6 @@
-//! The slots in which a run's caller holds snapshots.
-ghost use Rattle.std.specs.Prelude.{◌≡◌, ◌<◌, true, false, replicate, length, slice_index_or, slice_set, Some, None, is_some, IfOk};
+//! The slots in which the callers of a run hold snapshots.
+ghost use Rattle.std.specs.Prelude.{◌≡◌, ◌<◌, true, false, [], replicate, length, slice_index_or, slice_set, Some, None, is_some, IfOk, OnOk};
+ghost use Rattle.lethe_run.specs.Holding.{held_by};
 ghost use Rattle.lethe_core.specs.Running.{IsSound};
 ghost use Rattle.lethe_core.specs.View.{view_of};
 
@@ -10,9 +11,12 @@ use lethe_script::{SLOTS, Slot};
 use lethe_snapshot::Snapshot;
 use std::alloc::Global;
 
-/// The ten slots of the caller. What one holds is a snapshot, which has to be released.
+/// How many callers a script may have.
+pub(crate) const CALLERS: usize = 8;
+
+/// The ten slots of a caller. What one holds is a snapshot, which has to be released.
 pub(crate) struct Slots<D: Disk> {
-    held: Vec<Option<Snapshot<D>>>,
+    pub held: Vec<Option<Snapshot<D>>>,
 }
 
 impl<D: Disk> Slots<D> {
@@ -67,16 +71,58 @@ impl<D: Disk> Slots<D> {
         snapshot
     }
 
+    /// Releases all that is held.
+    fn release_all(self, engine: &mut Engine<D>)
+        requires sound { IsSound D.tells (view_of engine.old.core) }
+        ensures sound { IsSound D.tells (view_of engine.new.core) }
+        ensures disk { engine.new.core.disk ≡ engine.old.core.disk }
+    {
+        let Slots { mut held } = self;
+        while let Some(slot) = held.pop() {
+            release(engine, slot);
+        }
+        held.destroy_empty();
+    }
+}
+
+/// The slots of each caller of a run, the first caller's first.
+pub(crate) struct CallerSlots<D: Disk> {
+    pub of: Vec<Slots<D>>,
+}
+
+impl<D: Disk> CallerSlots<D> {
+    /// No caller has any yet.
+    pub(crate) fn none(alloc: Global) -> CallerSlots<D>
+        ensures { result.of.items ≡ [] }
+    {
+        CallerSlots {
+            of: Vec::new(alloc),
+        }
+    }
+
+    /// Gives each caller its slots, of which none holds anything. The room for all is taken here.
+    pub(crate) fn fill(&mut self, alloc: Global) -> Result<(), NoMemory>
+        requires { self.old.of.items ≡ [] }
+        ensures { OnOk result (held_by self.new.of.items ≡ replicate 8 (replicate 10 None)) }
+    {
+        self.of.reserve(CALLERS)?;
+        'callers: while self.of.len() < CALLERS {
+            let slots = Slots::new(alloc)?;
+            self.of.push(slots).unwrap();
+        }
+        Ok(())
+    }
+
     /// Releases all that is held, and gives the disk of the store back.
     pub(crate) fn hand_back(self, mut engine: Engine<D>) -> D
         requires { IsSound D.tells (view_of engine.core) }
         ensures { result ≡ engine.core.disk }
     {
-        let Slots { mut held } = self;
-        while let Some(slot) = held.pop() {
-            release(&mut engine, slot);
+        let CallerSlots { mut of } = self;
+        while let Some(slots) = of.pop() {
+            slots.release_all(&mut engine);
         }
-        held.destroy_empty();
+        of.destroy_empty();
         engine.into_disk()
     }
 }

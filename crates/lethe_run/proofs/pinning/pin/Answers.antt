@@ -1,4 +1,5 @@
-use Rattle.std.proofs.Common.{Some, None, Ok, refl, sym, ap, ◌∙◌, subst}
+use Rattle.std.proofs.Common.{◌≡◌, Some, None, Ok, refl, sym, ap, ◌∙◌, subst}
+use Rattle.std.specs.Prelude.{slice_set}
 use Rattle.std.specs.Result.{result_err}
 use Rattle.lethe_base.specs.declared.call.Call.TheVariants.{Work}
 use Rattle.lethe_core.specs.Asked.{Serves}
@@ -10,25 +11,30 @@ use Rattle.lethe_stored.specs.Stored.{layout_of}
 use Rattle.lethe_run.specs.Carried.{Limit}
 use Rattle.lethe_run.specs.Holding.{pin_of, slots_of}
 use Rattle.lethe_run.specs.Serving.{opened_in}
-use Rattle.lethe_run.proofs.Holding.{behind_free, held_more, holds_more, pin_at, shown_now, shown_set, slots_more, ten_of}
+use Rattle.lethe_run.specs.Slots.{Pin}
+use Rattle.lethe_run.proofs.Holding.{behind_free, held_set, pin_at, shown_now, shown_set, slots_set, ten_set}
 use Rattle.lethe_run.proofs.Pinned.{looked, pin_served, pin_told}
+use Rattle.lethe_run.proofs.Pins.{pins_more}
 use Rattle.lethe_run.proofs.Seen.{seen_here}
 use Rattle.lethe_run.proofs.pinning.pin.Goals as goal
-
-pub hold-requires-clause-ten : goal.hold-requires-clause-ten
-hold-requires-clause-ten g c κs within = ten_of c.args.slots.now.held.items (view_of c.args.engine.now.core) c.requires.pins
 
 pub returns-in-Ok-clause-told : goal.returns-in-Ok-clause-told
 returns-in-Ok-clause-told g c =
     let old = view_of c.args.engine.now.core in
     let new = view_of c.pin.new.self.core in
+    let is = c.in-Ok.ensures in
+    let none_refused = subst (λ r. Answers g.D.Disk.tells (Serves Work) (result_err r) (pinned_face (face_of old) r) old new) c.in-Ok.is c.pin.ensures.answers in
+    pin_told old new (λ i. (is.same i).core.state) (λ i. (view_of (is.same i).core).levels) g.D.Disk.ports_fail c.args.slot.now c.point-point.result c.number-number.result c.limit-limit.result
+    (c.point-point.ensures ∙ is.point) (c.number-number.ensures ∙ is.number) (rw c.limit-limit.ensures (pins_more old new c.in-Ok.snapshot.pin.limit none_refused.face_is))
+
+pub returns-in-Ok-clause-slots : goal.returns-in-Ok-clause-slots
+returns-in-Ok-clause-slots g c =
     let held = c.args.slots.now.held.items in
     let left = c.hold.new.self.held.items in
-    let snapshot = c.in-Ok.snapshot in
-    let is = c.in-Ok.ensures in
-    pin_told old new (λ i. (is.same i).core.state) (λ i. (view_of (is.same i).core).levels) g.D.Disk.ports_fail (slots_of old held) (slots_of new left) c.args.slot.now (pin_of snapshot) c.point-point.result c.number-number.result c.limit-limit.result
-    c.point-point.ensures c.number-number.ensures c.limit-limit.ensures is.point is.number (pin_at held old c.args.slot.now None c.requires.free)
-    (slots_more held left c.args.slot.now old new c.requires.pins c.hold.ensures.within snapshot c.hold.ensures.held c.requires.free is.pinned)
+    let slot = c.args.slot.now in
+    let told : pin_of c.in-Ok.snapshot ≡ record { number = c.number-number.result; point = c.point-point.result; limit = c.limit-limit.result } =
+    λ i. record { number = sym c.number-number.ensures i; point = sym c.point-point.ensures i; limit = sym c.limit-limit.ensures i } in
+    (slot, refl, pin_at held slot None c.requires.free, slots_set held left slot (Some c.in-Ok.snapshot) c.hold.ensures.held ∙ ap (λ (pin : Pin). slice_set (slots_of held) slot (Some pin)) told)
 
 pub returns-in-Ok-clause-served : goal.returns-in-Ok-clause-served
 returns-in-Ok-clause-served g c = λ told begin from h caller on.
@@ -49,14 +55,10 @@ returns-in-Ok-clause-shown g c = λ told begin from h on shown.
     rw c.hold.ensures.held (shown_set held h c.args.slot.now (Some c.in-Ok.snapshot)
     (shown_now h c.in-Ok.snapshot (is.point ∙ on.stands.now.count) (is.of told begin.config (opened_in begin from on.counted) h on.stands)) shown)
 
-pub returns-in-Ok-clause-pins : goal.returns-in-Ok-clause-pins
-returns-in-Ok-clause-pins g c =
-    holds_more c.args.slots.now.held.items c.hold.new.self.held.items c.args.slot.now (view_of c.args.engine.now.core) (view_of c.pin.new.self.core) c.requires.pins c.hold.ensures.within c.in-Ok.snapshot c.hold.ensures.held
-    c.requires.free c.in-Ok.ensures.pinned
+pub returns-in-Ok-clause-ten : goal.returns-in-Ok-clause-ten
+returns-in-Ok-clause-ten g c = ten_set c.args.slots.now.held.items c.hold.new.self.held.items c.args.slot.now (Some c.in-Ok.snapshot) c.hold.ensures.held c.requires.ten
 
 pub returns-in-Ok-clause-slotted : goal.returns-in-Ok-clause-slotted
 returns-in-Ok-clause-slotted g c =
     let held = c.args.slots.now.held.items in
-    let left = c.hold.new.self.held.items in
-    behind_free held c.args.slot.now _ c.requires.free
-    ∙ ap Some (sym (held_more held left c.args.slot.now (view_of c.args.engine.now.core) (view_of c.pin.new.self.core) c.requires.pins c.hold.ensures.within c.in-Ok.snapshot c.hold.ensures.held c.requires.free))
+    behind_free held c.args.slot.now _ c.requires.free ∙ ap Some (sym (held_set held c.hold.new.self.held.items c.args.slot.now (Some c.in-Ok.snapshot) c.hold.ensures.held))

@@ -9,13 +9,18 @@ use Rattle.lethe_script.specs.declared.order.Act.TheVariants as acts
 use Rattle.lethe_run.specs.Anywhere.{IsTold}
 use Rattle.lethe_run.specs.Holding.{pin_of}
 use Rattle.lethe_run.specs.Serving.{IsLookedUp}
+use Rattle.lethe_run.specs.Slots.{InSlots}
 use Rattle.lethe_run.proofs.Anywhere.{slot_unread_tells}
 use Rattle.lethe_run.proofs.Outcomes.{ok_of}
 use Rattle.lethe_run.proofs.Pinned.{slot_answer, slot_unread}
+use Rattle.lethe_run.proofs.Staying.{slot_unread_stays}
 use Rattle.lethe_run.proofs.pinning.pin_scan.Goals as goal
 
 pub returns-in-Ok-clause-told : goal.returns-in-Ok-clause-told
-returns-in-Ok-clause-told g c = λ from upto s slot there. (refl, (slot, c.args.lo.now, c.args.hi.now, refl, (pin_of c.args.snapshot.now, there, sym c.number.ensures, sym c.point.ensures), refl), omega arith)
+returns-in-Ok-clause-told g c = λ from upto s slot. (refl, refl, omega arith)
+
+pub returns-in-Ok-clause-slots : goal.returns-in-Ok-clause-slots
+returns-in-Ok-clause-slots g c = λ held slot there. (slot, c.args.lo.now, c.args.hi.now, refl, (pin_of c.args.snapshot.now, there, sym c.number.ensures, sym c.point.ensures), refl)
 
 pub returns-in-Ok-clause-served : goal.returns-in-Ok-clause-served
 returns-in-Ok-clause-served g c = λ told begin h caller slot faults moment shown.
@@ -30,11 +35,14 @@ returns-in-Ok-clause-served g c = λ told begin h caller slot faults moment show
     (slot_answer h snapshot (answers.Scan lo hi) (listed pairs) point c.point.ensures shown given, (omega (arith, shown.within, c.point.ensures), refl), refl, refl)
 
 pub returns-in-Err-clause-told : goal.returns-in-Err-clause-told
-returns-in-Err-clause-told g c = λ from upto s slot there.
+returns-in-Err-clause-told g c = λ from upto s slot.
     let Ports = g.D.Disk.ports_fail in
     let act = acts.PinScan slot c.args.lo.now c.args.hi.now in
     subst (λ r. IfOk r (λ reply. IsTold Ports from upto act s reply s)) (sym c.unread.ensures)
     (slot_unread_tells Ports from upto act s (inr refl) c.in-Err.why c.in-Err.ensures.why (λ before after is. c.scan.ensures.can_fail before after (c.in-Err.is ∙ ap Err is)))
+
+pub returns-in-Err-clause-slots : goal.returns-in-Err-clause-slots
+returns-in-Err-clause-slots g c = λ held slot there. subst (λ r. IfOk r (λ reply. InSlots (acts.PinScan slot c.args.lo.now c.args.hi.now) reply held held)) (sym c.unread.ensures) (slot_unread_stays (acts.PinScan slot c.args.lo.now c.args.hi.now) held c.in-Err.why)
 
 pub returns-in-Err-clause-served : goal.returns-in-Err-clause-served
 returns-in-Err-clause-served g c = λ told begin h caller slot faults moment shown.

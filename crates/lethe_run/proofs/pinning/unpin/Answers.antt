@@ -2,29 +2,28 @@ use Rattle.std.proofs.Common.{◌≡◌, Some, None, refl, sym, ap, ◌∙◌}
 use Rattle.lethe_state.specs.declared.state.State.{State}
 use Rattle.lethe_core.specs.Pins.{without_pin}
 use Rattle.lethe_core.specs.View.{face_of, view_of}
-use Rattle.lethe_pins.specs.Held.{without}
-use Rattle.lethe_run.specs.Holding.{pin_of, slots_of}
-use Rattle.lethe_run.proofs.Holding.{behind_held, held_fewer, holds_fewer, pin_at, shown_set, slots_fewer, ten_of}
+use Rattle.lethe_run.specs.Holding.{pin_of}
+use Rattle.lethe_run.proofs.Holding.{behind_held, held_set, pin_at, shown_set, slots_set, ten_set}
 use Rattle.lethe_run.proofs.Pinned.{looked, unpin_served, unpin_told}
+use Rattle.lethe_run.proofs.Pins.{pins_fewer}
 use Rattle.lethe_run.proofs.pinning.unpin.Goals as goal
-
-pub take-snapshot-requires-clause-ten : goal.take-snapshot-requires-clause-ten
-take-snapshot-requires-clause-ten g c κs within = ten_of c.args.slots.now.held.items (view_of c.args.engine.now.core) c.requires.pins
 
 pub returns-clause-told : goal.returns-clause-told
 returns-clause-told g c =
     let old = view_of c.args.engine.now.core in
     let new = view_of c.release.new.self.core in
-    let held = c.args.slots.now.held.items in
-    let left = c.take-snapshot.new.self.held.items in
-    let slot = c.args.slot.now in
     let snapshot = c.take-snapshot.result in
     let is = c.release.ensures in
     let state : new.state ≡ old.state = λ i. (is.same i).core.state in
-    let same : new ≡ record old { pins = record old.pins { pins = without snapshot.pin.number old.pins.pins } } = λ i. view_of (is.same i).core in
-    unpin_told old new state (λ i. (view_of (is.same i).core).levels) g.D.Disk.ports_fail (slots_of old held) (slots_of new left) slot (pin_of snapshot) c.count.result c.number-number.result (c.count.ensures ∙ ap (λ (state : State). state.count) state) c.number-number.ensures
-    (pin_at held old slot (Some snapshot) c.take-snapshot.ensures.was)
-    (slots_fewer held left slot old new c.requires.pins c.take-snapshot.ensures.within snapshot c.take-snapshot.ensures.free c.take-snapshot.ensures.was c.requires.sound.pins same)
+    unpin_told old new state (λ i. (view_of (is.same i).core).levels) g.D.Disk.ports_fail c.args.slot.now c.count.result c.number-number.result (c.count.ensures ∙ ap (λ (state : State). state.count) state)
+    (rw c.number-number.ensures (pins_fewer old new snapshot.pin.number is.answers.face_is))
+
+pub returns-clause-slots : goal.returns-clause-slots
+returns-clause-slots g c =
+    let held = c.args.slots.now.held.items in
+    let slot = c.args.slot.now in
+    let snapshot = c.take-snapshot.result in
+    (slot, refl, pin_of snapshot, pin_at held slot (Some snapshot) c.take-snapshot.ensures.was, sym c.number-number.ensures, slots_set held c.take-snapshot.new.self.held.items slot None c.take-snapshot.ensures.free)
 
 pub returns-clause-served : goal.returns-clause-served
 returns-clause-served g c = λ told begin from h caller on.
@@ -37,20 +36,10 @@ returns-clause-served g c = λ told begin from h caller on.
 pub returns-clause-shown : goal.returns-clause-shown
 returns-clause-shown g c = λ told h shown. rw c.take-snapshot.ensures.free (shown_set c.args.slots.now.held.items h c.args.slot.now None tt shown)
 
-pub returns-clause-pins : goal.returns-clause-pins
-returns-clause-pins g c =
-    let old = view_of c.args.engine.now.core in
-    let new = view_of c.release.new.self.core in
-    let snapshot = c.take-snapshot.result in
-    let same : new ≡ record old { pins = record old.pins { pins = without snapshot.pin.number old.pins.pins } } = λ i. view_of (c.release.ensures.same i).core in
-    holds_fewer c.args.slots.now.held.items c.take-snapshot.new.self.held.items c.args.slot.now old new c.requires.pins c.take-snapshot.ensures.within snapshot c.take-snapshot.ensures.free c.take-snapshot.ensures.was c.requires.sound.pins same
+pub returns-clause-ten : goal.returns-clause-ten
+returns-clause-ten g c = ten_set c.args.slots.now.held.items c.take-snapshot.new.self.held.items c.args.slot.now None c.take-snapshot.ensures.free c.requires.ten
 
 pub returns-clause-slotted : goal.returns-clause-slotted
 returns-clause-slotted g c =
-    let old = view_of c.args.engine.now.core in
-    let new = view_of c.release.new.self.core in
     let held = c.args.slots.now.held.items in
-    let snapshot = c.take-snapshot.result in
-    let same : new ≡ record old { pins = record old.pins { pins = without snapshot.pin.number old.pins.pins } } = λ i. view_of (c.release.ensures.same i).core in
-    behind_held held c.args.slot.now _ c.requires.held
-    ∙ ap Some (sym (held_fewer held c.take-snapshot.new.self.held.items c.args.slot.now old new c.requires.pins c.take-snapshot.ensures.within snapshot c.take-snapshot.ensures.free c.take-snapshot.ensures.was c.requires.sound.pins same))
+    behind_held held c.args.slot.now _ c.requires.held ∙ ap Some (sym (held_set held c.take-snapshot.new.self.held.items c.args.slot.now None c.take-snapshot.ensures.free))

@@ -14,7 +14,7 @@ returns-in-Ok-clause-served g c =
       Answer caller reply ∷ [],
       pushed,
       stretch_one g.D.Disk.tells g.D.Disk.ports_fail order reply (view_of c.args.engine.now.core) (view_of c.answer.new.engine.core) c.args.slots.now.held.items c.answer.new.slots.held.items
-          c.answer.ensures.faults c.in-Ok.ensures.told (λ told begin from h on shown. c.in-Ok.ensures.served told begin from h caller on shown) c.answer.ensures.shown,
+          c.answer.ensures.faults c.in-Ok.ensures.told c.in-Ok.ensures.slots (λ told begin from h on shown. c.in-Ok.ensures.served told begin from h caller on shown) c.answer.ensures.shown,
     )
 
 pub returns-in-Err-clause-served : goal.returns-in-Err-clause-served
@@ -22,5 +22,5 @@ returns-in-Err-clause-served g c = (
   [],
   sym (append-nil c.args.lines.now.items),
   stretch_still g.D.Disk.tells g.D.Disk.ports_fail (view_of c.args.engine.now.core) (view_of c.answer.new.engine.core) c.args.slots.now.held.items c.answer.new.slots.held.items
-      c.answer.ensures.faults c.in-Err.ensures.told (λ told begin from h on shown. c.in-Err.ensures.served told begin from h c.args.caller on shown) c.answer.ensures.shown,
+      c.answer.ensures.faults c.in-Err.ensures.told c.in-Err.ensures.slots (λ told begin from h on shown. c.in-Err.ensures.served told begin from h c.args.caller on shown) c.answer.ensures.shown,
 )

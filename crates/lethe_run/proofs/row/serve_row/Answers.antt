@@ -15,7 +15,7 @@ rows-init g c =
       served = served_none g.D.Disk.tells g.D.Disk.ports_fail c.args.queue.now.caller c.args.queue.now.changes.items c.args.lines.now.items (view_of c.args.engine.now.core) c.args.slots.now.held.items;
       rounds = omega arith;
       made = omega arith;
-      pins = c.requires.pins;
+      ten = c.requires.ten;
       slotted = refl;
       room = omega arith;
       capacity = omega arith;
@@ -123,7 +123,7 @@ rows-preserved g c =
           so_far (served_act Tells Ports caller change rest c.act_of.result c.act_of.ensures c.make_row.new.lines.items c.serve_act.new.lines.items amid new held left act.0 act.1 one);
       rounds = let a = c.rows.invariant.rounds in let b = c.serve_act.ensures.rounds in omega (arith, a, b, same_rounds, fewer, one_less);
       made = let a = c.rows.invariant.made in let b = c.serve_act.ensures.made in omega (arith, a, b, same_made, fewer, one_less);
-      pins = c.serve_act.ensures.pins;
+      ten = c.serve_act.ensures.ten;
       slotted = held_same change (held_in held) (held_in left) (subst (λ act. held_behind act (held_in held) ≡ Some (held_in left)) c.act_of.ensures (c.serve_act.ensures.slotted ok)) ∙ c.rows.invariant.slotted;
       room = let a = c.rows.invariant.room in let b = c.make_row.ensures.room in let d = c.serve_act.ensures.room in omega (arith, a, b, d, one_less);
       capacity = let a = c.rows.invariant.capacity in let b = c.make_row.ensures.capacity in let d = c.serve_act.ensures.capacity in omega (arith, a, b, d);

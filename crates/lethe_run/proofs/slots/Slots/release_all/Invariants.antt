@@ -1,7 +1,7 @@
 use Rattle.std.proofs.Common.{◌≡◌, length}
 use Rattle.lethe_core.specs.Running.{IsSound}
 use Rattle.lethe_core.specs.View.{view_of}
-use Rattle.lethe_run.proofs.slots.Slots.hand_back.Given as goal
+use Rattle.lethe_run.proofs.slots.Slots.release_all.Given as goal
 
 -- the last ones were released, and the disk is as it was
 abbrev pub invariant-loop-slot : goal.invariant-loop-slot
