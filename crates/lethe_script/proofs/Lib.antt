@@ -1,7 +1,9 @@
 pub mod Numbers
 pub mod FieldLemmas
 pub mod Digits
+pub mod Phases
 pub mod Lines
 pub mod Counts
 pub mod SlotLemmas
 pub mod Spelled
+pub mod Taking

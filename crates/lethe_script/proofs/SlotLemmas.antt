@@ -1,43 +1,131 @@
 -- What is held behind lines and orders.
-use Rattle.std.proofs.Common.{◌≡◌, ℕ, ◌+◌, Bool, true, false, List, [], ◌∷◌, take, Option, Some, None, option_and_then, ok_or, IsSome, Ok, refl, ap, append-nil}
-use Rattle.std.specs.List.{cons_option, flat_map}
+use Rattle.std.proofs.Common.{◌≡◌, ◌≢◌, ℕ, ◌+◌, ◌-◌, ◌<◌, ◌≤◌, ◌&&◌, Bool, true, false, List, [], ◌∷◌, length, take, filter, get_or, set, eqb, leb, cond, Option, Some, None, option_map, option_and_then, ok_or, IsSome, Result, Ok, Err, inl, inr, lit<, refl, sym, ap, ◌∙◌, subst, arith}
+use Rattle.std.specs.List.{All, filter_map, flat_map, list_all, cons_option}
+use Rattle.std.specs.Str.{bytes_eq}
 use Rattle.std.specs.Str.Lines.{strip_carriage_return}
+use Rattle.std.proofs.lemmas.Bool.{cases_lt, eqb-true, leb-true, ne_eqb}
+use Rattle.std.proofs.lemmas.List.{get_or-set_same, get_or-set_other, length-set}
+use Rattle.std.proofs.lemmas.List.Elements.{All-nil, All-cons, All-head, All-tail}
 use Rattle.lethe_base.specs.Keys.{Bytes}
+use Rattle.lethe_base.specs.Results.{◌>>=◌}
+use Rattle.lethe_base.proofs.ReadingSteps.{bind_ok, ok_is, met_test}
+use Rattle.lethe_script.specs.declared.order.Act.{Act}
+use Rattle.lethe_script.specs.declared.order.Item.{Item}
+use Rattle.lethe_script.specs.declared.order.Item.TheVariants as item
 use Rattle.lethe_script.specs.declared.order.Order.{Order}
-use Rattle.lethe_script.specs.Slots.{Held, none_held, held_behind, held_through, AreSlotted}
-use Rattle.lethe_script.specs.Grammar.{lines, order_of, slots_behind, orders_from}
+use Rattle.lethe_script.specs.declared.refused.BadLine.{BadLine}
+use Rattle.lethe_script.specs.declared.refused.Why.{Why}
+use Rattle.lethe_script.specs.Fields.{caller_of, fields, is_allowed, is_comment}
+use Rattle.lethe_script.specs.Slots.{Held, HeldByAll, none_held, none_held_by_all, held_behind, held_by, held_through, all_held_behind, orders_by, AreSlotted}
+use Rattle.lethe_script.specs.Grammar.{lines, item_of, line_of, fields_say, item_fields, phase_end_of, order_fields, numbered, slots_behind, items_from, order_in, phases_of}
+use Rattle.lethe_script.specs.Reading.{phases_read}
 use Rattle.lethe_script.proofs.Lines.{line_kept}
+use Rattle.lethe_script.proofs.Phases.{orders_flat}
 
 from_ok_or : {A E : Type 0} (o : Option A) (why : E) (a : A) → ok_or o why ≡ Ok a → o ≡ Some a
 from_ok_or None why a e = absurd cc
 from_ok_or (Some x) why a e = cc
 
--- an order that is read goes on with what is held behind it
-held_along : (order : Option Order) (orders : List Order) (held behind : Held) → slots_behind order held ≡ Ok behind
-    → held_through (cons_option order orders) held ≡ held_through orders behind
-held_along None orders held behind e = let same : held ≡ behind = cc in ap (held_through orders) same
-held_along (Some order) orders held behind e = ap (option_and_then (λ b. held_through orders b)) (from_ok_or (held_behind order.act held) _ behind e)
+from_map : {A B : Type 0} (f : A → B) (o : Option A) (b : B) → option_map f o ≡ Some b → (a : A) × (o ≡ Some a) × (f a ≡ b)
+from_map f None b e = absurd cc
+from_map f (Some a) b e = (a, refl, cc)
 
--- what is read finds its slots as it needs them
-slotted_from : (is_long : Bool) (n : ℕ) (held : Held) (parts : List Bytes) (orders : List Order) → orders_from is_long n held parts ≡ Ok orders → IsSome (held_through orders held)
-unfolding orders_from
-slotted_from is_long n held [] orders e = let same : [] ≡ orders = cc in rw (← same) refl
-slotted_from true n held (last ∷ []) orders e = absurd cc
-slotted_from false n held (last ∷ []) orders e =
-    let kept = line_kept held (order_of n last) (λ _. Ok []) orders e in
-    let none : [] ≡ kept.2 = cc in
-    rw (kept.5, ← none, held_along kept.0 [] held kept.1 kept.3) refl
-slotted_from is_long n held (line ∷ next ∷ more) orders e =
-    let kept = line_kept held (order_of n (strip_carriage_return line)) (λ behind. orders_from is_long (n + 1) behind (next ∷ more)) orders e in
-    rw (kept.5, held_along kept.0 kept.2 held kept.1 kept.3) (slotted_from is_long (n + 1) kept.1 (next ∷ more) kept.2 kept.4)
+-- the order is of one of the eight callers
+pub record IsOfCaller (order : Order) : Type 0 where
+  pub from_one : 1 ≤ order.caller
+  pub to_eight : order.caller ≤ 8
 
-pub script_slotted : (is_long : Bool) (bytes : Bytes) (orders : List Order) (phases : List (List Order)) → orders_from is_long 1 none_held (lines (take 16777216 bytes)) ≡ Ok orders
-    → phases ≡ orders ∷ [] → AreSlotted (flat_map (λ orders. orders) phases)
-script_slotted is_long bytes orders phases e one =
-    rw (one, append-nil orders) (slotted_from is_long 1 none_held (lines (take 16777216 bytes)) orders e)
+-- What a line says is of a caller
 
--- orders that find their slots go on one by one
-pub slotted_step : (held : Option Held) (orders : List Order) → IsSome (option_and_then (λ behind. held_through orders behind) held)
-    → (behind : Held) × (held ≡ Some behind) × IsSome (held_through orders behind)
-slotted_step None orders h = absurd cc
-slotted_step (Some behind) orders h = (behind, refl, h)
+called : (field : Bytes) (caller : ℕ) → caller_of field ≡ Ok caller → (1 ≤ caller) × (caller ≤ 8)
+unfolding caller_of
+called [] caller e = absurd cc
+called (digit ∷ []) caller e = by (leb 49 digit) (leb digit 56) refl refl e
+  where
+    by : (low high : Bool) → leb 49 digit ≡ low → leb digit 56 ≡ high → (let r : Result ℕ Why = cond (low && high) (Ok (digit - 48)) (Err Caller) in r ≡ Ok caller) → (1 ≤ caller) × (caller ≤ 8)
+    by true true low high e =
+        let is : digit - 48 ≡ caller = cc in
+        (omega (arith, is, leb-true 49 digit low), omega (arith, is, leb-true digit 56 high))
+    by true false low high e = absurd cc
+    by false high low is e = absurd cc
+called (digit ∷ other ∷ more) caller e = absurd cc
+
+order_called : (n : ℕ) (first : Bytes) (rest : List Bytes) (order : Order) → order_fields n first rest ≡ Ok order → IsOfCaller order
+unfolding order_fields
+order_called n first rest order e =
+    let (caller, is, acts) = bind_ok (caller_of first) (λ caller. act_of rest >>= λ act. Ok (record { line = n; caller = caller; act = act })) order e in
+    let (act, asked, made) = bind_ok (act_of rest) (λ act. Ok (record { line = n; caller = caller; act = act })) order acts in
+    let same : caller ≡ order.caller = ap (λ (o : Order). o.caller) (ok_is _ _ made) in
+    let within = called first caller is in
+    record { from_one = subst (λ k. 1 ≤ k) same within.0; to_eight = subst (λ k. k ≤ 8) same within.1 }
+
+-- an item's order, if it is one, is of a caller
+abbrev IsCalled : Item → Type 0
+IsCalled item.PhaseEnd = Unit {0}
+IsCalled (item.Order order) = IsOfCaller order
+
+end_called : (rest : List Bytes) (found : Item) → phase_end_of rest ≡ Ok found → IsCalled found
+unfolding phase_end_of
+end_called [] item.PhaseEnd e = tt
+end_called [] (item.Order order) e = absurd cc
+end_called (field ∷ more) found e = absurd cc
+
+item_called : (n : ℕ) (first : Bytes) (rest : List Bytes) (found : Item) → item_fields n first rest ≡ Ok found → IsCalled found
+unfolding item_fields
+item_called n first rest found e = by (bytes_eq first (codes "phase")) e
+  where
+    by : (b : Bool) → cond b (phase_end_of rest) (order_fields n first rest >>= λ order. Ok (item.Order order)) ≡ Ok found → IsCalled found
+    by true e = end_called rest found e
+    by false e =
+        let (order, is, made) = bind_ok (order_fields n first rest) (λ order. Ok (item.Order order)) found e in
+        subst IsCalled (ok_is _ _ made) (order_called n first rest order is)
+
+fields_called : (n : ℕ) (parts : List Bytes) (found : Item) → fields_say n parts ≡ Ok (Some found) → IsCalled found
+unfolding fields_say
+fields_called n [] found e = absurd cc
+fields_called n (first ∷ rest) found e = by (is_comment first) e
+  where
+    by : (b : Bool) → cond b (Ok None) (item_fields n first rest >>= λ found. Ok (Some found)) ≡ Ok (Some found) → IsCalled found
+    by true e = absurd cc
+    by false e =
+        let (one, is, made) = bind_ok (item_fields n first rest) (λ found. Ok (Some found)) (Some found) e in
+        let same : one ≡ found = cc in
+        subst IsCalled same (item_called n first rest one is)
+
+line_called : (n : ℕ) (line : Bytes) (found : Item) → item_of n line ≡ Ok (Some found) → IsCalled found
+unfolding item_of line_of
+line_called n line found e = by (list_all is_allowed line) e
+  where
+    from_number : (read : Result (Option Item) Why) → numbered n read ≡ Ok (Some found) → read ≡ Ok (Some found)
+    from_number (Ok one) e = cc
+    from_number (Err why) e = absurd cc
+    by : (b : Bool) → numbered n (cond b (fields_say n (fields line)) (Err Byte)) ≡ Ok (Some found) → IsCalled found
+    by true e = fields_called n (fields line) found (from_number (fields_say n (fields line)) e)
+    by false e = absurd cc
+
+-- What an order leaves as it was
+
+pub module _ (order : Order) (is_of : IsOfCaller order) (held : HeldByAll) (eight : length held ≡ 8) where
+  within : order.caller - 1 < length held
+  within = omega (arith, is_of.from_one, is_of.to_eight, eight)
+
+  module _ (own : Held) where
+    own_behind : held_by order.caller (set held (order.caller - 1) own) ≡ own
+    own_behind = get_or-set_same held (order.caller - 1) own none_held within
+
+    other_behind : (caller : ℕ) → 1 ≤ caller → caller ≢ order.caller → held_by caller (set held (order.caller - 1) own) ≡ held_by caller held
+    other_behind caller some other = get_or-set_other held (order.caller - 1) (caller - 1) own none_held (λ e. other (omega (arith, some, e, is_of.from_one)))
+
+-- each caller's orders go on with what it holds behind an order
+pub along_order : (order : Order) → IsOfCaller order → (held : HeldByAll) → length held ≡ 8 → (own : Held) → held_behind order.act (held_by order.caller held) ≡ Some own → (orders : List Order) (caller : ℕ) → 1 ≤ caller
+    → held_through (orders_by caller (order ∷ orders)) (held_by caller held) ≡ held_through (orders_by caller orders) (held_by caller (set held (order.caller - 1) own))
+along_order order is_of held eight own behind orders caller some = elim (eqb_tells order.caller caller) [
+  | inl own_one ↦
+    let same = own_one.1 in
+    let mine : held_by caller held ≡ held_by order.caller held = ap (λ k. held_by k held) (sym same) in
+    let next : held_by caller (set held (order.caller - 1) own) ≡ own = ap (λ k. held_by k (set held (order.caller - 1) own)) (sym same) ∙ own_behind order is_of held eight own in
+    rw (own_one.0, mine, behind, next) refl
+  | inr other ↦
+    let left = other_behind order is_of held eight own caller some (λ e. other.1 (sym e)) in
+    rw (other.0, left) refl
+]
