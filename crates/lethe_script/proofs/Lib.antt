@@ -4,6 +4,8 @@ pub mod Digits
 pub mod Phases
 pub mod Lines
 pub mod Counts
+pub mod Callers
 pub mod SlotLemmas
 pub mod Spelled
+pub mod SpelledLines
 pub mod Taking

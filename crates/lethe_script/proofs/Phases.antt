@@ -1,6 +1,6 @@
 -- The phases of what lines say, one line after another.
-use Rattle.std.proofs.Common.{◌≡◌, ℕ, ◌≤◌, List, [], ◌∷◌, ◌++◌, length, map, Option, Some, None, refl, sym, ap, ◌∙◌, arith, append_assoc, append-nil}
-use Rattle.std.specs.List.{slice_split, filter_map, flat_map, cons_option}
+use Rattle.std.proofs.Common.{◌≡◌, List, [], ◌∷◌, ◌++◌, map, Option, Some, None, refl, sym, ap, ◌∙◌, append_assoc, append-nil}
+use Rattle.std.specs.List.{slice_split, onto_first, filter_map, flat_map, cons_option}
 use Rattle.lethe_script.specs.declared.order.Item.{Item}
 use Rattle.lethe_script.specs.declared.order.Item.TheVariants as item
 use Rattle.lethe_script.specs.declared.order.Order.{Order}
@@ -47,3 +47,11 @@ orders_flat (item.Order order ∷ items) =
     let (part, parts, is) = split_some items in
     let same : flat_map (λ orders. orders) (phases_of (item.Order order ∷ items)) ≡ order ∷ flat_map (λ orders. orders) (phases_of items) = rw is refl in
     same ∙ ap (λ orders. order ∷ orders) (orders_flat items)
+
+-- an order in front of others stands first in their first phase
+pub order_first : (order : Order) (items : List Item) (first : List Order) (others : List (List Order)) → phases_of items ≡ first ∷ others → phases_of (item.Order order ∷ items) ≡ (order ∷ first) ∷ others
+order_first order items first others e =
+    let (part, parts, is) = split_some items in
+    let same : map (filter_map order_in) (part ∷ parts) ≡ first ∷ others = ap (map (filter_map order_in)) (sym is) ∙ e in
+    let front : phases_of (item.Order order ∷ items) ≡ onto_first order (map (filter_map order_in) (part ∷ parts)) = rw is refl in
+    front ∙ ap (onto_first order) same

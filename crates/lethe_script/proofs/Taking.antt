@@ -1,9 +1,9 @@
 -- What all callers hold behind an order.
-use Rattle.std.proofs.Common.{◌≡◌, ℕ, ◌+◌, ◌-◌, ◌<◌, Bool, true, false, List, length, map, get_or, set, cond, Option, Some, None, refl, sym, ap, ◌∙◌, arith}
+use Rattle.std.proofs.Common.{◌≡◌, ℕ, ◌+◌, ◌-◌, Bool, true, false, List, map, get_or, set, cond, Some, None, refl, sym, ap, arith}
 use Rattle.std.proofs.lemmas.List.{map-set}
 use Rattle.lethe_script.specs.declared.order.Order.{Order}
 use Rattle.lethe_script.specs.declared.held.HeldSlots.{HeldSlots}
-use Rattle.lethe_script.specs.Slots.{Held, HeldByAll, none_held, held_behind, held_by, all_held_behind}
+use Rattle.lethe_script.specs.Slots.{HeldByAll, none_held, held_behind, all_held_behind}
 
 abbrev pub slots_in : List HeldSlots → HeldByAll
 slots_in callers = map (λ held. held.slots) callers

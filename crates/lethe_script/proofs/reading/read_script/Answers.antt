@@ -1,4 +1,4 @@
-use Rattle.std.proofs.Common.{◌≡◌, Ok, sym, ap, ◌∙◌}
+use Rattle.std.proofs.Common.{Ok, sym, ap, ◌∙◌}
 use Rattle.lethe_script.proofs.Counts.{script_few}
 use Rattle.lethe_script.proofs.SlotLemmas.{script_slotted}
 use Rattle.lethe_script.proofs.reading.read_script.Goals as goal
