@@ -1,7 +1,7 @@
 -- The first six fields of a line tell as much as all of them.
-use Rattle.std.proofs.Common.{◌≡◌, List, [], ◌∷◌, take, refl}
+use Rattle.std.proofs.Common.{◌≡◌, ℕ, List, [], ◌∷◌, take, refl}
 use Rattle.lethe_base.specs.Keys.{Bytes}
-use Rattle.lethe_script.specs.Grammar.{request_of, caller_and_act, act_of, put_of, get_of, scan_of, del_of, erase_of, stat_of, tick_of, pin_of, pget_of, pscan_of, unpin_of}
+use Rattle.lethe_script.specs.Grammar.{fields_say, item_fields, phase_end_of, order_fields, act_of, put_of, get_of, scan_of, del_of, erase_of, stat_of, tick_of, pin_of, pget_of, pscan_of, unpin_of}
 
 put_of_kept : (fields : List Bytes) → put_of (take 4 fields) ≡ put_of fields
 unfolding put_of
@@ -80,7 +80,8 @@ unfolding act_of
 act_of_kept [] = refl
 act_of_kept (command ∷ rest) = rw (put_of_kept rest, get_of_kept rest, scan_of_kept rest, del_of_kept rest, erase_of_kept rest, stat_of_kept rest, tick_of_kept rest, pin_of_kept rest, pget_of_kept rest, pscan_of_kept rest, unpin_of_kept rest) refl
 
-pub request_of_kept : (fields : List Bytes) → request_of (take 6 fields) ≡ request_of fields
-unfolding request_of caller_and_act
-request_of_kept [] = refl
-request_of_kept (first ∷ rest) = rw (act_of_kept rest) refl
+pub fields_say_kept : (n : ℕ) (fields : List Bytes) → fields_say n (take 6 fields) ≡ fields_say n fields
+unfolding fields_say item_fields phase_end_of order_fields
+fields_say_kept n [] = refl
+fields_say_kept n (first ∷ []) = refl
+fields_say_kept n (first ∷ field ∷ more) = rw (act_of_kept (field ∷ more)) refl

@@ -1,7 +1,11 @@
 pub mod Numbers
 pub mod FieldLemmas
 pub mod Digits
+pub mod Phases
 pub mod Lines
 pub mod Counts
+pub mod Callers
 pub mod SlotLemmas
 pub mod Spelled
+pub mod SpelledLines
+pub mod Taking

@@ -1,16 +1,18 @@
--- Lines that are spelled are read as what they spell.
-use Rattle.std.proofs.Common.{◌≡◌, ◌≢◌, ℕ, suc, ◌+◌, ◌-◌, ◌/◌, ◌%◌, ◌^◌, ◌<◌, ◌≤◌, ◌&&◌, Bool, true, false, not, List, [], ◌∷◌, ◌++◌, length, get_or, take, filter, eqb, ltb, leb, cond, IsSome, Some, ok_or, Ok, Err}
-use Rattle.std.proofs.Common.{lit<, lit≤, inl, inr, refl, sym, ap, ◌∙◌, arith, append_assoc}
-use Rattle.std.specs.List.{All, AllByRecursion, list_all, slice_split, join_with_byte, flat_map, cons_option}
+-- Fields that are spelled are read as what they spell.
+use Rattle.std.proofs.Common.{◌≡◌, ◌≢◌, ℕ, suc, ◌+◌, ◌-◌, ◌/◌, ◌%◌, ◌^◌, ◌<◌, ◌≤◌, ◌&&◌, Bool, true, false, not, List, [], ◌∷◌, length, get_or, take, filter, eqb, leb, cond, Some, Ok}
+use Rattle.std.proofs.Common.{lit<, lit≤, inl, inr, refl, ap, ◌∙◌, arith}
+use Rattle.std.specs.Prelude.{codes}
+use Rattle.std.specs.Str.{bytes_eq}
+use Rattle.std.specs.List.{All, AllByRecursion, list_all, slice_split, join_with_byte}
 use Rattle.std.specs.Fmt.{decimal}
 use Rattle.std.specs.Str.Lines.{strip_carriage_return}
 use Rattle.std.proofs.lemmas.Bool.Decides.{nat_tests}
 use Rattle.std.proofs.lemmas.List.Sums.{AllPass-from_list_all}
 use mathlib.Core.Bool.{false≢true}
-use Rattle.std.proofs.lemmas.Bool.{not-true, and_parts, cases_lt, ne_eqb, le-leb, leb-true, le-ltb, lt-ltb}
+use Rattle.std.proofs.lemmas.Bool.{not-true, and_parts, cases_lt, ne_eqb, le-leb, leb-true, lt-ltb}
 use Rattle.std.proofs.lemmas.Fmt.{decimal_is_IsNumeral, decimal_digit}
 use Rattle.std.proofs.lemmas.Str.Parse.{digit_at}
-use Rattle.std.proofs.lemmas.List.{take_all, get_or_past}
+use Rattle.std.proofs.lemmas.List.{get_or_past}
 use Rattle.std.proofs.lemmas.List.Elements.{All-nil, All-head, All-tail, All-cons, All-append, All-weaker, All-get_or, All-from_get_or}
 use Rattle.std.proofs.lemmas.List.Splits.{slice_split_at, slice_split_none}
 use Rattle.hex.specs.Hex.{lower_digits, encode_with, encode_lower}
@@ -20,16 +22,11 @@ use Rattle.lethe_base.specs.Limits.{IsKey, IsValue, max_time}
 use Rattle.lethe_base.specs.Numbers.{IsBytes}
 use Rattle.lethe_script.specs.declared.order.Act.{Act}
 use Rattle.lethe_script.specs.declared.order.Act.TheVariants.{Put, Get, Scan, Delete, Erase, Stat, Tick, Pin, PinGet, PinScan, Unpin}
-use Rattle.lethe_script.specs.declared.order.Order.{Order}
-use Rattle.lethe_script.specs.declared.refused.Why.TheVariants.{Byte, Slot}
-use Rattle.lethe_base.specs.Results.{◌>>=◌}
-use Rattle.lethe_script.specs.Fields.{is_allowed, is_field, fields, caller_of, is_lower_digit, digit_bytes, field_bytes, text_of, key_of, slot_of, time_of, value_of}
-use Rattle.lethe_script.specs.Grammar.{lines, put_fields, put_of, get_of, scan_fields, scan_of, del_of, erase_fields, erase_of, stat_of, tick_of, pin_of, pget_fields, pget_of, pscan_fields, pscan_of, unpin_of, act_of, caller_and_act, request_of, line_of, order_of, slots_behind, orders_from, script_of}
-use Rattle.lethe_script.specs.Spelling.{is_plain, marked, field_text, act_fields, spelling, IsWritableAct, IsWritable, IsNumbered}
+use Rattle.lethe_script.specs.declared.order.Item.TheVariants as item
+use Rattle.lethe_script.specs.Fields.{is_allowed, is_comment, is_field, fields, caller_of, is_lower_digit, digit_bytes, field_bytes, text_of, key_of, slot_of, time_of, value_of}
+use Rattle.lethe_script.specs.Grammar.{put_fields, put_of, get_of, scan_fields, scan_of, del_of, erase_fields, erase_of, stat_of, tick_of, pin_of, pget_fields, pget_of, pscan_fields, pscan_of, unpin_of, act_of, order_fields, item_fields, fields_say}
+use Rattle.lethe_script.specs.Spelling.{is_plain, marked, field_text, act_fields, IsWritableAct}
 use Rattle.lethe_script.proofs.Numbers.{number_again}
-use Rattle.lethe_script.specs.Slots.{Held, none_held, held_behind, held_through, AreSlotted}
-use Rattle.lethe_script.proofs.Lines.{orders_from-cons, lines_some}
-use Rattle.lethe_script.proofs.SlotLemmas.{slotted_step}
 
 -- a byte of a line
 pub record IsAllowed (byte : ℕ) : Type 0 where
@@ -66,17 +63,17 @@ all_fields (x ∷ parts) h =
     let some : eqb (length x) 0 ≡ false = ne_eqb (length x) 0 (λ e. absurd (omega (arith, (h.0).some))) in
     ap (λ b. cond (not b) (x ∷ filter is_field parts) (filter is_field parts)) some ∙ ap (λ ps. x ∷ ps) (all_fields parts h.1)
 
-fields_joined : (parts : List Bytes) → 0 < length parts → AllByRecursion IsFieldText parts → fields (join_with_byte 32 parts) ≡ parts
+pub fields_joined : (parts : List Bytes) → 0 < length parts → AllByRecursion IsFieldText parts → fields (join_with_byte 32 parts) ≡ parts
 fields_joined parts some h = ap (filter is_field) (parts_joined parts some h) ∙ all_fields parts h
 
-allowed_joined : (parts : List Bytes) → 0 < length parts → AllByRecursion IsFieldText parts → All IsAllowed (join_with_byte 32 parts)
+pub allowed_joined : (parts : List Bytes) → 0 < length parts → AllByRecursion IsFieldText parts → All IsAllowed (join_with_byte 32 parts)
 allowed_joined [] some h = absurd (omega arith)
 allowed_joined (x ∷ []) some h = printed_allowed x (h.0).printed
 allowed_joined (x ∷ y ∷ more) some h =
     All-append IsAllowed x (32 ∷ join_with_byte 32 (y ∷ more)) (printed_allowed x (h.0).printed)
     (All-cons IsAllowed 32 (join_with_byte 32 (y ∷ more)) (record { low = lit≤ tt; high = lit≤ tt }) (allowed_joined (y ∷ more) (omega arith) h.1))
 
-all_allowed : (bytes : Bytes) → All IsAllowed bytes → list_all is_allowed bytes ≡ true
+pub all_allowed : (bytes : Bytes) → All IsAllowed bytes → list_all is_allowed bytes ≡ true
 all_allowed [] h = refl
 all_allowed (byte ∷ bytes) h =
     let p = All-head IsAllowed byte bytes h in
@@ -85,7 +82,7 @@ all_allowed (byte ∷ bytes) h =
     rw (low, high, all_allowed bytes (All-tail IsAllowed byte bytes h)) refl
 
 -- a line of allowed bytes has no CR to lose, and no LF
-no_cr : (bytes : Bytes) → All IsAllowed bytes → strip_carriage_return bytes ≡ bytes
+pub no_cr : (bytes : Bytes) → All IsAllowed bytes → strip_carriage_return bytes ≡ bytes
 no_cr bytes h =
     let other : get_or bytes (length bytes - 1) 0 ≢ 13 = λ e. elim (cases_lt (length bytes - 1) (length bytes)) [
       | inl within ↦ absurd (omega (arith, (All-get_or IsAllowed bytes (length bytes - 1) 0 within h).low, e))
@@ -93,10 +90,10 @@ no_cr bytes h =
     ] in
     ap (λ b. cond b (take (length bytes - 1) bytes) bytes) (ne_eqb _ 13 other)
 
-no_lf : (bytes : Bytes) → All IsAllowed bytes → All (λ byte. eqb byte 10 ≡ false) bytes
+pub no_lf : (bytes : Bytes) → All IsAllowed bytes → All (λ byte. eqb byte 10 ≡ false) bytes
 no_lf bytes h = All-weaker IsAllowed (λ byte. eqb byte 10 ≡ false) (λ byte p. ne_eqb byte 10 (λ e. absurd (omega (arith, p.low)))) bytes h
 
-decimal_field : (n : ℕ) → n < 2 ^ 64 → IsFieldText (decimal n)
+pub decimal_field : (n : ℕ) → n < 2 ^ 64 → IsFieldText (decimal n)
 decimal_field n small =
     let numeral = (decimal_is_IsNumeral n small).0 in
     record {
@@ -207,14 +204,35 @@ act_again (PinScan slot lo hi) w =
     rw (slot_again slot w.0, key_again (field_text lo) lo (text_again lo w.1.1) w.1.0, key_again (field_text hi) hi (text_again hi w.2.1) w.2.0) refl
 act_again (Unpin slot) w = rw (slot_again slot w) refl
 
-request_again : (act : Act) → IsWritableAct act → request_of (decimal 1 ∷ act_fields act) ≡ Ok (Some (1, act))
-unfolding request_of caller_and_act caller_of
-request_again act w = ap (λ one. request_of (one ∷ act_fields act)) (decimal_digit 1 (lit< tt)) ∙ ap (λ a. (a >>= λ act. Ok (1, act)) >>= λ asked. Ok (Some asked)) (act_again act w)
+caller_again : (caller : ℕ) → 1 ≤ caller → caller ≤ 8 → caller_of (decimal caller) ≡ Ok caller
+unfolding caller_of
+caller_again caller some most =
+    let digit : decimal caller ≡ (48 + caller) ∷ [] = decimal_digit caller (omega (arith, most)) in
+    let low : leb 49 (48 + caller) ≡ true = le-leb 49 (48 + caller) (omega (arith, some)) in
+    let high : leb (48 + caller) 56 ≡ true = le-leb (48 + caller) 56 (omega (arith, most)) in
+    let same : 48 + caller - 48 ≡ caller = omega arith in
+    rw (digit, low, high) (ap Ok same)
+
+-- a caller's digit begins no comment, and isn't `phase`
+pub fields_again : (n caller : ℕ) (act : Act) → 1 ≤ caller → caller ≤ 8 → IsWritableAct act
+    → fields_say n (decimal caller ∷ act_fields act) ≡ Ok (Some (item.Order (record { line = n; caller = caller; act = act })))
+unfolding fields_say item_fields order_fields
+fields_again n caller act some most w =
+    let digit : decimal caller ≡ (48 + caller) ∷ [] = decimal_digit caller (omega (arith, most)) in
+    let no_comment : is_comment (decimal caller) ≡ false = ap is_comment digit ∙ ne_eqb (48 + caller) 35 (λ e. absurd (omega (arith, e))) in
+    let no_phase : bytes_eq (decimal caller) (codes "phase") ≡ false = ap (λ field. bytes_eq field (codes "phase")) digit ∙ by_length (48 + caller) in
+    rw (no_comment, no_phase, caller_again caller some most, act_again act w) refl
+  where
+    and_false : (b : Bool) → (b && false) ≡ false
+    and_false true = refl
+    and_false false = refl
+    by_length : (byte : ℕ) → bytes_eq (byte ∷ []) (codes "phase") ≡ false
+    by_length byte = and_false _
 
 slot_field : (slot : ℕ) → slot < 10 → IsFieldText (decimal slot)
 slot_field slot small = decimal_field slot (omega (arith, small))
 
-act_texts : (act : Act) → IsWritableAct act → AllByRecursion IsFieldText (act_fields act)
+pub act_texts : (act : Act) → IsWritableAct act → AllByRecursion IsFieldText (act_fields act)
 act_texts (Put key dkey value) w = (command_field _ (lit< tt) refl, (text_field key w.0.1, (decimal_field dkey w.1, (text_field value w.2.1, tt))))
 act_texts (Get key) w = (command_field _ (lit< tt) refl, (text_field key w.1, tt))
 act_texts (Scan lo hi) w = (command_field _ (lit< tt) refl, (text_field lo w.0.1, (text_field hi w.1.1, tt)))
@@ -226,65 +244,3 @@ act_texts (Pin slot) w = (command_field _ (lit< tt) refl, (slot_field slot w, tt
 act_texts (PinGet slot key) w = (command_field _ (lit< tt) refl, (slot_field slot w.0, (text_field key w.1.1, tt)))
 act_texts (PinScan slot lo hi) w = (command_field _ (lit< tt) refl, (slot_field slot w.0, (text_field lo w.1.1, (text_field hi w.2.1, tt))))
 act_texts (Unpin slot) w = (command_field _ (lit< tt) refl, (slot_field slot w, tt))
-
--- the line of an order, without its LF
-abbrev line_text : Order → Bytes
-line_text order = join_with_byte 32 (decimal order.caller ∷ act_fields order.act)
-
-module _ (order : Order) (w : IsWritable order) where
-  texts : AllByRecursion IsFieldText (decimal order.caller ∷ act_fields order.act)
-  texts = (decimal_field order.caller (omega (arith, w.caller)), act_texts order.act w.act)
-
-  some_parts : 0 < length (decimal order.caller ∷ act_fields order.act)
-  some_parts = omega arith
-
-  allowed : All IsAllowed (line_text order)
-  allowed = allowed_joined (decimal order.caller ∷ act_fields order.act) some_parts texts
-
-  line_again : line_of (line_text order) ≡ Ok (Some (order.caller, order.act))
-  unfolding line_of
-  line_again =
-      ap (λ b. cond b (request_of (fields (line_text order))) (Err Byte)) (all_allowed (line_text order) allowed)
-      ∙ ap request_of (fields_joined (decimal order.caller ∷ act_fields order.act) some_parts texts)
-      ∙ ap (λ n. request_of (decimal n ∷ act_fields order.act)) w.caller
-      ∙ request_again order.act w.act
-      ∙ ap (λ n. Ok (Some (n, order.act))) (sym w.caller)
-
-  order_again : (n : ℕ) → order.line ≡ n → order_of n (line_text order) ≡ Ok (Some order)
-  unfolding order_of
-  order_again n e = rw (line_again, order_of) (ap (λ k. Ok (Some (record { line = k; caller = order.caller; act = order.act }))) (sym e))
-
-  lines_again : (rest : Bytes) → lines (spelling order ++ rest) ≡ line_text order ∷ lines rest
-  lines_again rest =
-      ap lines (append_assoc (line_text order) (10 ∷ []) rest)
-      ∙ slice_split_at (λ byte. eqb byte 10) (line_text order) 10 rest (no_lf (line_text order) allowed) refl
-
--- an empty line gives no order
-none_left : (n : ℕ) (held : Held) → orders_from false n held (lines []) ≡ Ok []
-unfolding orders_from order_of line_of request_of
-none_left n held = refl
-
-orders_again : (n : ℕ) (held : Held) (orders : List Order) → All IsWritable orders → IsNumbered n orders → IsSome (held_through orders held)
-    → orders_from false n held (lines (flat_map spelling orders)) ≡ Ok orders
-orders_again n held [] w numbered slotted = none_left n held
-orders_again n held (order ∷ orders) w numbered slotted =
-    let here = All-head IsWritable order orders w in
-    let rest = flat_map spelling orders in
-    let read : order_of n (strip_carriage_return (line_text order)) ≡ Ok (Some order) = ap (order_of n) (no_cr (line_text order) (allowed order here)) ∙ order_again order here n numbered.0 in
-    let (behind, is, after) = slotted_step (held_behind order.act held) orders slotted in
-    let others = λ (slots : Held). orders_from false (n + 1) slots (lines rest) >>= λ orders. Ok (order ∷ orders) in
-    ap (orders_from false n held) (lines_again order here rest)
-    ∙ orders_from-cons false n held (line_text order) (lines rest) (lines_some rest)
-    ∙ ap (λ r. r >>= λ order. slots_behind order held >>= λ behind. orders_from false (n + 1) behind (lines rest) >>= λ orders. Ok (cons_option order orders)) read
-    ∙ ap (λ o. ok_or o (record { line = order.line; why = Slot }) >>= others) is
-    ∙ ap (λ r. r >>= λ orders. Ok (order ∷ orders)) (orders_again (n + 1) behind orders (All-tail IsWritable order orders w) numbered.1 after)
-
-pub script_again : (orders : List Order) → All IsWritable orders → IsNumbered 1 orders → AreSlotted orders → length (flat_map spelling orders) ≤ 16777216
-    → script_of (flat_map spelling orders) ≡ Ok (orders ∷ [])
-unfolding script_of
-script_again orders w numbered slotted small =
-    let bytes = flat_map spelling orders in
-    let short : ltb 16777216 (length bytes) ≡ false = le-ltb 16777216 (length bytes) small in
-    ap (λ b. orders_from b 1 none_held (lines (take 16777216 bytes)) >>= λ orders. Ok (orders ∷ [])) short
-    ∙ ap (λ bs. orders_from false 1 none_held (lines bs) >>= λ orders. Ok (orders ∷ [])) (take_all 16777216 bytes small)
-    ∙ ap (λ r. r >>= λ orders. Ok (orders ∷ [])) (orders_again 1 none_held orders w numbered slotted)

@@ -1,5 +1,5 @@
 -- What the fields of a line are, and what each of them stands for.
-use Rattle.std.specs.Prelude.{ℕ, ◌-◌, ◌^◌, Bool, ◌&&◌, ◌||◌, not, List, [], ◌∷◌, length, filter, Option, Some, None, ok_or, Result, Ok, Err, nat_lt, nat_le, ◌==◌, if◌then◌else◌, slice_index, codes}
+use Rattle.std.specs.Prelude.{ℕ, ◌-◌, ◌^◌, Bool, ◌&&◌, ◌||◌, not, List, [], ◌∷◌, length, filter, Option, Some, None, ok_or, Result, Ok, Err, nat_lt, nat_le, ◌==◌, if◌then◌else◌, slice_index}
 use Rattle.std.specs.List.{slice_split, list_all}
 use Rattle.std.specs.Result.{result_ok}
 use Rattle.std.specs.Str.{bytes_eq}
@@ -28,9 +28,10 @@ fields line = filter is_field (slice_split (λ byte. byte == 32) line)
 abbrev pub is_comment : Bytes → Bool
 is_comment first = slice_index first 0 == 35
 
--- the one caller
+-- a caller: one digit from 1 to 8
 unfoldable pub caller_of : Bytes → Result ℕ Why
-caller_of field = if bytes_eq field (codes "1") then Ok 1 else Err Caller
+caller_of (digit ∷ []) = if nat_le 49 digit && nat_le digit 56 then Ok (digit - 48) else Err Caller
+caller_of _ = Err Caller
 
 -- the number that prints as the field: `0`, or digits without a leading zero
 unfoldable pub number_of : Bytes → Result ℕ Why

@@ -1,18 +1,20 @@
 -- What the bytes of a script ask for, or the first line that is no part of one, and why.
-use Rattle.std.specs.Prelude.{ℕ, ◌+◌, Bool, List, [], ◌∷◌, length, take, option_map, Option, Some, None, ok_or, Result, Ok, Err, nat_lt, ◌==◌, if◌then◌else◌, codes}
-use Rattle.std.specs.List.{slice_split, list_all, cons_option}
+use Rattle.std.specs.Prelude.{ℕ, ◌+◌, Bool, true, false, List, [], ◌∷◌, length, map, take, Option, Some, None, ok_or, Result, Ok, Err, nat_lt, ◌==◌, if◌then◌else◌, codes}
+use Rattle.std.specs.List.{slice_split, list_all, filter_map, cons_option}
 use Rattle.std.specs.Str.{bytes_eq}
 use Rattle.std.specs.Str.Lines.{strip_carriage_return}
 use Rattle.lethe_base.specs.Keys.{Bytes}
 use Rattle.lethe_script.specs.declared.order.Act.{Act}
 use Rattle.lethe_script.specs.declared.order.Act.TheVariants.{Put, Get, Scan, Delete, Erase, Stat, Tick, Pin, PinGet, PinScan, Unpin}
+use Rattle.lethe_script.specs.declared.order.Item.{Item}
+use Rattle.lethe_script.specs.declared.order.Item.TheVariants as item
 use Rattle.lethe_script.specs.declared.order.Order.{Order}
 use Rattle.lethe_script.specs.declared.refused.BadLine.{BadLine}
 use Rattle.lethe_script.specs.declared.refused.Why.{Why}
 use Rattle.lethe_script.specs.declared.refused.Why.TheVariants.{Size, Byte, Command, Count, Slot, Range}
 use Rattle.lethe_base.specs.Results.{◌>>=◌}
 use Rattle.lethe_script.specs.Fields.{fields, is_allowed, is_comment, caller_of, key_of, number_of, slot_of, time_of, value_of}
-use Rattle.lethe_script.specs.Slots.{Held, none_held, held_behind}
+use Rattle.lethe_script.specs.Slots.{HeldByAll, none_held_by_all, all_held_behind}
 
 unfoldable pub put_fields : Bytes → Bytes → Bytes → Result Act Why
 put_fields key dkey value = do
@@ -127,54 +129,77 @@ act_of (command ∷ rest) =
     if bytes_eq command (codes "pscan") then pscan_of rest else
     if bytes_eq command (codes "unpin") then unpin_of rest else Err Command
 
--- the first field of a line, and those behind it
-unfoldable pub caller_and_act : Bytes → List Bytes → Result (ℕ × Act) Why
-caller_and_act first rest = do
+-- a caller, and the fields behind it
+unfoldable pub order_fields : ℕ → Bytes → List Bytes → Result Order Why
+order_fields n first rest = do
   caller ← caller_of first
   act ← act_of rest
-  Ok (caller, act)
+  Ok (record { line = n; caller = caller; act = act })
 
--- all fields of a line: one that has none, and a comment, ask for nothing
-unfoldable pub request_of : List Bytes → Result (Option (ℕ × Act)) Why
-request_of [] = Ok None
-request_of (first ∷ rest) = if is_comment first then Ok None else (caller_and_act first rest >>= λ request. Ok (Some request))
+-- behind `phase` there is no field
+unfoldable pub phase_end_of : List Bytes → Result Item Why
+phase_end_of [] = Ok item.PhaseEnd
+phase_end_of _ = Err Count
 
--- a line: its caller and its act
-unfoldable pub line_of : Bytes → Result (Option (ℕ × Act)) Why
-line_of line = if list_all is_allowed line then request_of (fields line) else Err Byte
+-- all fields of a line, the first of which is `phase`, or else a caller
+unfoldable pub item_fields : ℕ → Bytes → List Bytes → Result Item Why
+item_fields n first rest =
+    if bytes_eq first (codes "phase") then phase_end_of rest else (order_fields n first rest >>= λ order. Ok (item.Order order))
 
--- what a line with this number asks for
-abbrev pub numbered : ℕ → Result (Option (ℕ × Act)) Why → Result (Option Order) BadLine
-numbered n (Ok request) = Ok (option_map (λ r. record { line = n; caller = r.0; act = r.1 }) request)
+-- the same, where a line that has none, and a comment, say nothing
+unfoldable pub fields_say : ℕ → List Bytes → Result (Option Item) Why
+fields_say n [] = Ok None
+fields_say n (first ∷ rest) = if is_comment first then Ok None else (item_fields n first rest >>= λ found. Ok (Some found))
+
+-- what the line of this number says
+unfoldable pub line_of : ℕ → Bytes → Result (Option Item) Why
+line_of n line = if list_all is_allowed line then fields_say n (fields line) else Err Byte
+
+-- a line that is bad has its number
+abbrev pub numbered : ℕ → Result (Option Item) Why → Result (Option Item) BadLine
+numbered n (Ok found) = Ok found
 numbered n (Err why) = Err (record { line = n; why = why })
 
-unfoldable pub order_of : ℕ → Bytes → Result (Option Order) BadLine
-order_of n line = numbered n (line_of line)
+unfoldable pub item_of : ℕ → Bytes → Result (Option Item) BadLine
+item_of n line = numbered n (line_of n line)
 
 -- the parts between the LFs
 abbrev pub lines : Bytes → List Bytes
 lines bytes = slice_split (λ byte. byte == 10) bytes
 
 -- the slots behind a line: the last test of a line
-abbrev pub slots_behind : Option Order → Held → Result Held BadLine
+abbrev pub slots_behind : Option Item → HeldByAll → Result HeldByAll BadLine
 slots_behind None held = Ok held
-slots_behind (Some order) held = ok_or (held_behind order.act held) (record { line = order.line; why = Slot })
+slots_behind (Some item.PhaseEnd) held = Ok held
+slots_behind (Some (item.Order order)) held = ok_or (all_held_behind order held) (record { line = order.line; why = Slot })
 
--- The lines from this number on, in front of which these slots are held. An LF ends each but the last, and a CR before it
+-- What the lines from this number on say, in front of which these slots are held. An LF ends each but the last, and a CR before it
 -- is no part of the line. Where the script is too long, its first byte that is too much stands in the last line.
-unfoldable pub orders_from : Bool → ℕ → Held → List Bytes → Result (List Order) BadLine
-orders_from is_long n held [] = Ok []
-orders_from is_long n held (last ∷ []) =
+unfoldable pub items_from : Bool → ℕ → HeldByAll → List Bytes → Result (List Item) BadLine
+items_from is_long n held [] = Ok []
+items_from is_long n held (last ∷ []) =
     if is_long then Err (record { line = n; why = Size }) else
-    (order_of n last >>= λ order. slots_behind order held >>= λ behind. Ok (cons_option order []))
-orders_from is_long n held (line ∷ next ∷ more) = do
-  order ← order_of n (strip_carriage_return line)
-  behind ← slots_behind order held
-  orders ← orders_from is_long (n + 1) behind (next ∷ more)
-  Ok (cons_option order orders)
+    (item_of n last >>= λ found. slots_behind found held >>= λ behind. Ok (cons_option found []))
+items_from is_long n held (line ∷ next ∷ more) = do
+  found ← item_of n (strip_carriage_return line)
+  behind ← slots_behind found held
+  items ← items_from is_long (n + 1) behind (next ∷ more)
+  Ok (cons_option found items)
+
+abbrev pub is_phase_end : Item → Bool
+is_phase_end item.PhaseEnd = true
+is_phase_end (item.Order order) = false
+
+abbrev pub order_in : Item → Option Order
+order_in item.PhaseEnd = None
+order_in (item.Order order) = Some order
+
+-- a phase's orders stand between two lines `phase`, or such a line and the begin or the end of the script
+abbrev pub phases_of : List Item → List (List Order)
+phases_of items = map (filter_map order_in) (slice_split is_phase_end items)
 
 -- the phases of a script, which has at most 16,777,216 bytes
 unfoldable pub script_of : Bytes → Result (List (List Order)) BadLine
 script_of bytes = do
-  orders ← orders_from (nat_lt 16777216 (length bytes)) 1 none_held (lines (take 16777216 bytes))
-  Ok (orders ∷ [])
+  items ← items_from (nat_lt 16777216 (length bytes)) 1 none_held_by_all (lines (take 16777216 bytes))
+  Ok (phases_of items)

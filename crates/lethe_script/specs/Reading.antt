@@ -1,9 +1,10 @@
 -- What a function that reads returns, against what the grammar says.
-use Rattle.std.specs.Prelude.{◌≡◌, ℕ, ◌+◌, ◌<◌, ◌≤◌, List, [], ◌∷◌, ◌++◌, length, slice_index, Option, Result, Ok, Err}
-use Rattle.std.specs.List.{cons_option}
+use Rattle.std.specs.Prelude.{◌≡◌, ℕ, ◌+◌, ◌<◌, ◌≤◌, List, [], ◌∷◌, ◌++◌, length, slice_index, Option, Some, None, Result, Ok, Err}
 use Rattle.lethe_base.specs.Results.{◌>>=◌}
-use Rattle.lethe_script.specs.Slots.{Held}
-use Rattle.lethe_script.specs.Grammar.{lines, slots_behind}
+use Rattle.lethe_script.specs.Slots.{HeldByAll}
+use Rattle.lethe_script.specs.Grammar.{lines, phases_of, slots_behind}
+use Rattle.lethe_script.specs.declared.order.Item.{Item}
+use Rattle.lethe_script.specs.declared.order.Item.TheVariants as item
 use Rattle.lethe_script.specs.declared.order.Order.{Order}
 use Rattle.lethe_script.specs.declared.refused.BadLine.{BadLine}
 use Rattle.lethe_script.specs.declared.refused.Why.{Why}
@@ -31,12 +32,24 @@ abbrev pub GivesScript : {X Y : Type 0} → (X → Y) → Result X ScriptRefused
 GivesScript view (Ok x) read = read ≡ Ok (view x)
 GivesScript view (Err e) read = FailsScript e read
 
--- orders with that of a further line behind them, if it has one, and the slots that are held then
-abbrev pub with_order : List Order → Held → Result (Option Order) BadLine → Result (List Order × Held) BadLine
-with_order front held read = do
-  order ← read
-  behind ← slots_behind order held
-  Ok (front ++ cons_option order [], behind)
+-- the phases so far, the open one apart, with what a further line says, and the slots that are held then
+abbrev pub Phases : Type 0
+Phases = List (List Order) × List Order
+
+abbrev pub phases_behind : Option Item → List (List Order) → List Order → Phases
+phases_behind None ended open_orders = (ended, open_orders)
+phases_behind (Some item.PhaseEnd) ended open_orders = (ended ++ open_orders ∷ [], [])
+phases_behind (Some (item.Order order)) ended open_orders = (ended, open_orders ++ order ∷ [])
+
+abbrev pub with_item : List (List Order) → List Order → HeldByAll → Result (Option Item) BadLine → Result (Phases × HeldByAll) BadLine
+with_item ended open_orders held read = do
+  found ← read
+  behind ← slots_behind found held
+  Ok (phases_behind found ended open_orders, behind)
+
+-- the phases that are read, where all lines are
+abbrev pub phases_read : Result (List Item) BadLine → Result (List (List Order)) BadLine
+phases_read read = read >>= λ items. Ok (phases_of items)
 
 -- there is a digit in front, and no zero before others
 pub record BeginsNumber (field : List ℕ) : Type 0 where

@@ -1,10 +1,10 @@
 -- Which slots are held from line to line.
-use Rattle.std.specs.Prelude.{ℕ, Bool, true, false, List, [], ◌∷◌, replicate, slice_index_or, slice_set, Option, Some, None, option_and_then, IsSome, if◌then◌else◌}
+use Rattle.std.specs.Prelude.{ℕ, ◌-◌, Bool, true, false, List, [], ◌∷◌, filter, replicate, slice_index_or, slice_set, Option, Some, None, option_map, option_and_then, IsSome, ◌==◌, if◌then◌else◌}
 use Rattle.lethe_script.specs.declared.order.Act.{Act}
 use Rattle.lethe_script.specs.declared.order.Act.TheVariants.{Put, Get, Scan, Delete, Erase, Stat, Tick, Pin, PinGet, PinScan, Unpin}
 use Rattle.lethe_script.specs.declared.order.Order.{Order}
 
--- for each of the ten slots whether it is held
+-- for each of a caller's ten slots whether it is held
 abbrev pub Held : Type 0
 Held = List Bool
 
@@ -16,7 +16,7 @@ none_held = replicate 10 false
 abbrev pub is_held : Held → ℕ → Bool
 is_held held slot = slice_index_or held slot false
 
--- What is held behind an act; nothing where the slot isn't as the act needs it: `pin` needs it free and holds it, the
+-- What its caller holds behind an act; nothing where the slot isn't as the act needs it: `pin` needs it free and holds it, the
 -- others need it held, and `unpin` frees it.
 abbrev pub held_behind : Act → Held → Option Held
 held_behind (Put key dkey value) held = Some held
@@ -31,11 +31,31 @@ held_behind (PinGet slot key) held = if is_held held slot then Some held else No
 held_behind (PinScan slot lo hi) held = if is_held held slot then Some held else None
 held_behind (Unpin slot) held = if is_held held slot then Some (slice_set held slot false) else None
 
--- what is held behind orders
+-- what a caller holds behind its orders
 abbrev pub held_through : List Order → Held → Option Held
 held_through [] held = Some held
 held_through (order ∷ orders) held = option_and_then (λ behind. held_through orders behind) (held_behind order.act held)
 
--- each act finds its slot as it needs it, where none is held at first
+-- the orders of a caller
+abbrev pub orders_by : ℕ → List Order → List Order
+orders_by caller orders = filter (λ order. order.caller == caller) orders
+
+-- each caller's acts find its slots as they need them, where it holds none at first
 abbrev pub AreSlotted : List Order → Type 0
-AreSlotted orders = IsSome (held_through orders none_held)
+AreSlotted orders = (caller : ℕ) → IsSome (held_through (orders_by caller orders) none_held)
+
+-- for each of the eight callers what it holds
+abbrev pub HeldByAll : Type 0
+HeldByAll = List Held
+
+-- at first nobody holds a slot
+abbrev pub none_held_by_all : HeldByAll
+none_held_by_all = replicate 8 none_held
+
+-- what a caller holds; they are numbered from 1 on
+abbrev pub held_by : ℕ → HeldByAll → Held
+held_by caller held = slice_index_or held (caller - 1) none_held
+
+-- what they hold behind an order, which finds and changes the slots of its own caller alone
+abbrev pub all_held_behind : Order → HeldByAll → Option HeldByAll
+all_held_behind order held = option_map (λ behind. slice_set held (order.caller - 1) behind) (held_behind order.act (held_by order.caller held))

@@ -1,6 +1,6 @@
 -- How an order is written as a line.
 use Rattle.std.specs.Prelude.{◌≡◌, ℕ, ◌+◌, ◌^◌, ◌<◌, ◌≤◌, Bool, ◌&&◌, not, List, [], ◌∷◌, ◌++◌, length, slice_index, nat_le, ◌==◌, if◌then◌else◌, codes}
-use Rattle.std.specs.List.{join_with_byte, list_all}
+use Rattle.std.specs.List.{flat_map, join_with_byte, list_all}
 use Rattle.std.specs.Fmt.{decimal}
 use Rattle.hex.specs.Hex.{encode_lower}
 use Rattle.lethe_base.specs.Keys.{Bytes}
@@ -44,6 +44,16 @@ act_fields (Unpin slot) = codes "unpin" ∷ decimal slot ∷ []
 abbrev pub spelling : Order → Bytes
 spelling order = join_with_byte 32 (decimal order.caller ∷ act_fields order.act) ++ 10 ∷ []
 
+-- the line `phase`, with its LF
+abbrev pub phase_line : Bytes
+phase_line = codes "phase" ++ 10 ∷ []
+
+-- phases: the lines of their orders, with a line `phase` behind each phase but the last
+abbrev pub script_text : List (List Order) → Bytes
+script_text [] = []
+script_text (orders ∷ []) = flat_map spelling orders
+script_text (orders ∷ next ∷ more) = flat_map spelling orders ++ (phase_line ++ script_text (next ∷ more))
+
 -- what a key may be, and a value
 abbrev pub IsWritableKey : Bytes → Type 0
 IsWritableKey key = IsKey key × IsBytes key
@@ -66,10 +76,16 @@ IsWritableAct (Unpin slot) = slot < 10
 
 -- an order that a line can ask for
 pub record IsWritable (order : Order) : Type 0 where
-  pub caller : order.caller ≡ 1
+  pub from_one : 1 ≤ order.caller
+  pub to_eight : order.caller ≤ 8
   pub act : IsWritableAct order.act
 
 -- the lines of the orders are numbered from this number on
 abbrev pub IsNumbered : ℕ → List Order → Type 0
 IsNumbered n [] = Unit {0}
 IsNumbered n (order ∷ orders) = (order.line ≡ n) × IsNumbered (n + 1) orders
+
+-- the same of phases, where a line `phase` stands behind each
+abbrev pub AreNumbered : ℕ → List (List Order) → Type 0
+AreNumbered n [] = Unit {0}
+AreNumbered n (orders ∷ phases) = IsNumbered n orders × AreNumbered (n + length orders + 1) phases

@@ -4,6 +4,7 @@ ghost use Rattle.std.specs.List.{list_all};
 ghost use Rattle.lethe_script.specs.Fields.{number_of, slot_of, time_of, text_of, key_of, value_of, fields, is_comment, caller_of, is_lower_digit};
 ghost use Rattle.lethe_script.specs.Reading.{GivesLine, BeginsNumber};
 
+use crate::caller::Caller;
 use crate::refused::{LineRefused, Why};
 use crate::slot::Slot;
 use hex::FromHexError;
@@ -32,15 +33,17 @@ pub(crate) fn is_comment(first: &[u8]) -> bool
     !first.is_empty() && first[0] == b'#'
 }
 
-/// The caller, of whom there is one.
+/// The caller that a field of a line is: one digit from 1 to 8.
 #[tactic(auto, unfolding(crate::specs::Fields::caller_of))]
-pub(crate) fn caller(field: &[u8]) -> Result<u64, LineRefused>
+pub(crate) fn caller(field: &[u8]) -> Result<Caller, LineRefused>
     ensures { GivesLine (λ caller. caller) result (caller_of field.now) }
 {
-    if field == b"1".as_slice() {
-        Ok(1)
-    } else {
-        Err(LineRefused::Bad(Why::Caller))
+    match field {
+        [digit] if *digit >= b'0' => match Caller::new(u64::from(*digit - b'0')) {
+            Some(caller) => Ok(caller),
+            None => Err(LineRefused::Bad(Why::Caller)),
+        },
+        _ => Err(LineRefused::Bad(Why::Caller)),
     }
 }
 

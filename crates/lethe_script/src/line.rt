@@ -1,26 +1,30 @@
-//! What one line asks for.
+//! What one line says.
 ghost use Rattle.std.specs.Prelude.{◌≡◌, map};
 ghost use Rattle.std.specs.List.{list_all};
 ghost use Rattle.lethe_script.specs.Fields.{is_allowed};
-ghost use Rattle.lethe_script.specs.Grammar.{line_of, request_of, caller_and_act, act_of, put_of, put_fields, get_of, scan_of, scan_fields, del_of, erase_fields, erase_of, stat_of, tick_of, pin_of, pget_fields, pget_of, pscan_fields, pscan_of, unpin_of};
+ghost use Rattle.lethe_script.specs.Grammar.{line_of, fields_say, item_fields, phase_end_of, order_fields, act_of, put_of, put_fields, get_of, scan_of, scan_fields, del_of, erase_fields, erase_of, stat_of, tick_of, pin_of, pget_fields, pget_of, pscan_fields, pscan_of, unpin_of};
 ghost use Rattle.lethe_script.specs.Reading.{GivesLine};
 
 use crate::field::{caller, fields_of, is_comment, key, read_number, slot, time, value};
-use crate::order::Act;
+use crate::order::{Act, Item, Order};
 use crate::refused::{LineRefused, Why};
 use lethe_base::Range;
 use std::alloc::Global;
 
-/// The caller and the act of a line, or nothing where the line is skipped.
-#[tactic(auto, using(crate::proofs::FieldLemmas::request_of_kept), unfolding(crate::specs::Grammar::line_of))]
-pub(crate) fn read_line(alloc: Global, line: &[u8]) -> Result<Option<(u64, Act)>, LineRefused>
-    ensures { GivesLine (λ request. request) result (line_of line.now) }
+/// What the line of this number says, or nothing where it is skipped.
+#[tactic(auto, using(crate::proofs::FieldLemmas::fields_say_kept), unfolding(crate::specs::Grammar::line_of))]
+pub(crate) fn read_line(
+    alloc: Global,
+    number: u64,
+    line: &[u8],
+) -> Result<Option<Item>, LineRefused>
+    ensures { GivesLine (λ item. item) result (line_of number line.now) }
 {
     if !is_printable(line) {
         return Err(LineRefused::Bad(Why::Byte));
     }
     let fields = fields_of(alloc, line)?;
-    request(alloc, &fields)
+    said(alloc, number, &fields)
 }
 
 /// Every byte is a space or prints.
@@ -30,28 +34,55 @@ fn is_printable(line: &[u8]) -> bool
     line.iter().all(|byte| *byte >= b' ' && *byte <= b'~')
 }
 
-/// What all fields of a line ask for.
-#[tactic(auto, unfolding(crate::specs::Grammar::request_of))]
-fn request(alloc: Global, fields: &[&[u8]]) -> Result<Option<(u64, Act)>, LineRefused>
-    ensures { GivesLine (λ request. request) result (request_of (map (λ field. field.now) fields.now)) }
+/// What all fields of a line say.
+#[tactic(auto, unfolding(crate::specs::Grammar::fields_say))]
+fn said(alloc: Global, number: u64, fields: &[&[u8]]) -> Result<Option<Item>, LineRefused>
+    ensures { GivesLine (λ item. item) result (fields_say number (map (λ field. field.now) fields.now)) }
 {
     match fields {
         [first, rest @ ..] if !is_comment(first) => {
-            let request = caller_and_act(alloc, first, rest)?;
-            Ok(Some(request))
+            let item = item(alloc, number, first, rest)?;
+            Ok(Some(item))
         }
         _ => Ok(None),
     }
 }
 
-/// What the first field and those behind it say.
-#[tactic(auto, unfolding(crate::specs::Grammar::caller_and_act))]
-fn caller_and_act(alloc: Global, first: &[u8], rest: &[&[u8]]) -> Result<(u64, Act), LineRefused>
-    ensures { GivesLine (λ request. request) result (caller_and_act first.now (map (λ field. field.now) rest.now)) }
+/// What the first field, `phase` or a caller, and those behind it say.
+#[tactic(auto, unfolding(crate::specs::Grammar::item_fields))]
+fn item(alloc: Global, number: u64, first: &[u8], rest: &[&[u8]]) -> Result<Item, LineRefused>
+    ensures { GivesLine (λ item. item) result (item_fields number first.now (map (λ field. field.now) rest.now)) }
+{
+    if first == b"phase".as_slice() {
+        return phase_end(rest);
+    }
+    let order = order(alloc, number, first, rest)?;
+    Ok(Item::Order(order))
+}
+
+/// What stands behind `phase`.
+#[tactic(auto, unfolding(crate::specs::Grammar::phase_end_of))]
+fn phase_end(fields: &[&[u8]]) -> Result<Item, LineRefused>
+    ensures { GivesLine (λ item. item) result (phase_end_of (map (λ field. field.now) fields.now)) }
+{
+    match fields {
+        [] => Ok(Item::PhaseEnd),
+        _ => Err(LineRefused::Bad(Why::Count)),
+    }
+}
+
+/// What a caller and the fields behind it ask for.
+#[tactic(auto, unfolding(crate::specs::Grammar::order_fields))]
+fn order(alloc: Global, number: u64, first: &[u8], rest: &[&[u8]]) -> Result<Order, LineRefused>
+    ensures { GivesLine (λ order. order) result (order_fields number first.now (map (λ field. field.now) rest.now)) }
 {
     let caller = caller(first)?;
     let act = act(alloc, rest)?;
-    Ok((caller, act))
+    Ok(Order {
+        line: number,
+        caller,
+        act,
+    })
 }
 
 /// What the fields behind the caller ask for.

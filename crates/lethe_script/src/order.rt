@@ -1,5 +1,6 @@
 //! What a script asks for.
 
+use crate::caller::Caller;
 use crate::slot::Slot;
 use lethe_base::{Key, List, Range, Value};
 use lethe_time::Time;
@@ -36,14 +37,22 @@ pub enum Act {
 pub struct Order {
     /// The number of the line in its script, from 1 on; skipped lines count.
     pub line: u64,
-    /// The number of the caller. The callers of a script are numbered from 1 on.
-    pub caller: u64,
+    pub caller: Caller,
     pub act: Act,
+}
+
+/// What a line says that isn't skipped.
+#[derive(Debug, Drop)]
+pub(crate) enum Item {
+    /// The phase ends.
+    PhaseEnd,
+    /// A caller asks for an act.
+    Order(Order),
 }
 
 /// What a whole script asks for.
 #[derive(Debug, Drop)]
 pub struct Script {
-    /// The orders of each phase, in the order of their lines.
+    /// The orders of each phase, in the order of their lines. There is one phase more than lines `phase`.
     pub phases: List<List<Order>>,
 }

@@ -1,17 +1,18 @@
 //! Reading a script.
-ghost use Rattle.std.specs.Prelude.{◌≡◌, ◌==◌, ◌<◌, ◌≤◌, ◌∷◌, [], length, take, sum_by, IfOk, IfSome, MatchOption};
+ghost use Rattle.std.specs.Prelude.{◌≡◌, ◌==◌, ◌<◌, ◌≤◌, ◌∷◌, ◌++◌, [], length, take, sum_by, IfOk, IfSome, MatchOption};
 ghost use Rattle.std.specs.List.{flat_map, position};
 ghost use Rattle.std.specs.Str.Lines.{strip_carriage_return};
-ghost use Rattle.lethe_script.specs.Grammar.{order_of, orders_from, script_of, lines};
-ghost use Rattle.lethe_script.specs.Slots.{none_held, AreSlotted};
-ghost use Rattle.lethe_script.specs.Reading.{GivesScript, IsCut, with_order};
+ghost use Rattle.lethe_script.specs.Grammar.{item_of, items_from, phases_of, script_of, lines};
+ghost use Rattle.lethe_script.specs.Slots.{none_held_by_all, AreSlotted};
+ghost use Rattle.lethe_script.specs.Reading.{GivesScript, IsCut, phases_read, with_item};
 
+use crate::held::HeldByAll;
 use crate::line::read_line;
-use crate::order::{Order, Script};
+use crate::order::{Item, Order, Script};
 use crate::refused::{BadLine, LineRefused, ScriptRefused, Why};
-use crate::slot::HeldSlots;
 use lethe_base::List;
-use std::alloc::Global;
+use std::alloc::{AllocError, Global};
+use std::mem;
 
 /// The greatest number of bytes of a script.
 pub const MAX_SCRIPT: usize = 16_777_216;
@@ -22,13 +23,11 @@ pub fn read_script(alloc: Global, bytes: &[u8]) -> Result<Script, ScriptRefused>
     ensures script { GivesScript (λ script. script.phases) result (script_of bytes.now) }
     // There are no more orders than lines.
     ensures few { IfOk result (λ script. sum_by length script.phases ≤ 16777217) }
-    // Each act finds its slot free or held, as it needs it.
+    // Each caller's acts find its slots free or held, as they need them.
     ensures slots { IfOk result (λ script. AreSlotted (flat_map (λ orders. orders) script.phases)) }
 {
     let is_long = bytes.len() > MAX_SCRIPT;
-    let orders = read_orders(alloc, within_limit(bytes), is_long)?;
-    let mut phases = Vec::new(alloc);
-    phases.push(List::of(orders))?;
+    let phases = read_phases(alloc, within_limit(bytes), is_long)?;
     Ok(Script {
         phases: List::of(phases),
     })
@@ -46,17 +45,20 @@ fn within_limit(bytes: &[u8]) -> &[u8]
     }
 }
 
-/// The orders of the lines. Where the script is too long, its first byte that is too much stands in the last of them.
-fn read_orders(alloc: Global, bytes: &[u8], is_long: bool) -> Result<Vec<Order>, ScriptRefused>
+/// The phases of the lines. Where the script is too long, its first byte that is too much stands in the last of them.
+fn read_phases(
+    alloc: Global,
+    bytes: &[u8],
+    is_long: bool,
+) -> Result<Vec<List<Order>>, ScriptRefused>
     requires { length bytes.now ≤ 16777216 }
-    ensures { GivesScript (λ orders. orders.items) result (orders_from is_long 1 none_held (lines bytes.now)) }
+    ensures { GivesScript (λ phases. phases.items) result (phases_read (items_from is_long 1 none_held_by_all (lines bytes.now))) }
 {
-    let mut orders = Vec::new(alloc);
-    let mut held = HeldSlots::none();
+    let mut reading = Reading::new(alloc);
     let mut rest = bytes;
     let mut line = 1u64;
     while let Some((text, after)) = cut_line(rest) {
-        push_order(alloc, &mut orders, &mut held, line, without_cr(text))?;
+        reading.push_line(alloc, line, without_cr(text))?;
         rest = after;
         line += 1;
     }
@@ -66,8 +68,8 @@ fn read_orders(alloc: Global, bytes: &[u8], is_long: bool) -> Result<Vec<Order>,
             why: Why::Size,
         }));
     }
-    push_order(alloc, &mut orders, &mut held, line, rest)?;
-    Ok(orders)
+    reading.push_line(alloc, line, rest)?;
+    Ok(reading.into_phases()?)
 }
 
 /// The first line that an LF ends, and what stands behind the LF.
@@ -98,37 +100,75 @@ fn without_cr(line: &[u8]) -> &[u8]
     }
 }
 
-/// Reads a line, and keeps its order behind the others, if it has one. The line is bad where the order's act doesn't find
-/// its slot as it needs it.
-fn push_order(
-    alloc: Global,
-    orders: &mut Vec<Order>,
-    held: &mut HeldSlots,
-    line: u64,
-    text: &[u8],
-) -> Result<(), ScriptRefused>
-    ensures { GivesScript (λ _. (orders.new.items, held.new.slots)) result (with_order orders.old.items held.old.slots (order_of line text.now)) }
-{
-    if let Some(order) = read_order(alloc, line, text)? {
-        if !held.take(&order.act) {
-            return Err(ScriptRefused::Bad(BadLine {
-                line: order.line,
-                why: Why::Slot,
-            }));
-        }
-        orders.push(order)?;
-    }
-    Ok(())
+/// What was read so far.
+#[derive(Drop)]
+struct Reading {
+    /// The phases that have ended.
+    ended: Vec<List<Order>>,
+    /// The orders of the one that hasn't.
+    open: Vec<Order>,
+    held: HeldByAll,
 }
 
-/// The order of one line, or nothing where the line is skipped.
-#[tactic(auto, unfolding(crate::specs::Grammar::order_of))]
-fn read_order(alloc: Global, line: u64, text: &[u8]) -> Result<Option<Order>, ScriptRefused>
-    ensures { GivesScript (λ order. order) result (order_of line text.now) }
+impl Reading {
+    /// Nothing was read: the first phase has no orders yet.
+    fn new(alloc: Global) -> Reading
+        ensures ended { result.ended.items ≡ [] }
+        ensures open { result.open.items ≡ [] }
+        ensures held { result.held ≡ none_held_by_all }
+    {
+        Reading {
+            ended: Vec::new(alloc),
+            open: Vec::new(alloc),
+            held: HeldByAll::none(),
+        }
+    }
+
+    /// Reads a line, and keeps what it says. It is bad where the act of its order doesn't find its slot as it needs it.
+    fn push_line(&mut self, alloc: Global, line: u64, text: &[u8]) -> Result<(), ScriptRefused>
+        ensures { GivesScript (λ _. ((self.new.ended.items, self.new.open.items), self.new.held)) result
+            (with_item self.old.ended.items self.old.open.items self.old.held (item_of line text.now)) }
+    {
+        match read_item(alloc, line, text)? {
+            None => {}
+            Some(Item::PhaseEnd) => {
+                let orders = mem::replace(&mut self.open, Vec::new(alloc));
+                self.ended.push(List::of(orders))?;
+            }
+            Some(Item::Order(order)) => {
+                if !self.held.take(&order) {
+                    return Err(ScriptRefused::Bad(BadLine {
+                        line: order.line,
+                        why: Why::Slot,
+                    }));
+                }
+                self.open.push(order)?;
+            }
+        }
+        Ok(())
+    }
+
+    /// All phases, the last of which ends here.
+    fn into_phases(self) -> Result<Vec<List<Order>>, AllocError>
+        ensures { IfOk result (λ phases. phases.items ≡ self.ended.items ++ self.open.items ∷ []) }
+    {
+        let Reading {
+            mut ended,
+            open,
+            ..
+        } = self;
+        ended.push(List::of(open))?;
+        Ok(ended)
+    }
+}
+
+/// What one line says, or nothing where it is skipped.
+#[tactic(auto, unfolding(crate::specs::Grammar::item_of))]
+fn read_item(alloc: Global, line: u64, text: &[u8]) -> Result<Option<Item>, ScriptRefused>
+    ensures { GivesScript (λ item. item) result (item_of line text.now) }
 {
-    match read_line(alloc, text) {
-        Ok(Some((caller, act))) => Ok(Some(Order { line, caller, act })),
-        Ok(None) => Ok(None),
+    match read_line(alloc, line, text) {
+        Ok(item) => Ok(item),
         Err(LineRefused::Bad(why)) => Err(ScriptRefused::Bad(BadLine { line, why })),
         Err(LineRefused::NoMemory) => Err(ScriptRefused::NoMemory),
     }

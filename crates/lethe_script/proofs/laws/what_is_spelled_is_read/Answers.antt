@@ -1,4 +1,5 @@
-use Rattle.lethe_script.proofs.Spelled.{script_again, key_again, value_again, marked_again}
+use Rattle.lethe_script.proofs.Spelled.{key_again, value_again, marked_again}
+use Rattle.lethe_script.proofs.SpelledLines.{script_again}
 use Rattle.lethe_script.specs.Spelling.{marked}
 use Rattle.lethe_script.proofs.laws.what_is_spelled_is_read.Goals as goal
 
