@@ -1,5 +1,5 @@
 -- The orders and the lines of each caller, and a phase that is carried out caller by caller.
-use Rattle.std.proofs.Common.{◌≡◌, ◌≢◌, ◌⊎◌, ◌≤◌, ◌<◌, inl, inr, ℕ, zero, suc, ◌+◌, Bool, true, false, cond, List, [], ◌∷◌, ◌++◌, map, length, get_or, All, Option, refl, sym, ap, ◌∙◌, subst, arith, append_assoc, append-nil}
+use Rattle.std.proofs.Common.{◌≡◌, ◌≢◌, ◌⊎◌, ◌≤◌, ◌<◌, inl, inr, ℕ, zero, suc, ◌+◌, Bool, true, false, cond, List, [], ◌∷◌, ◌++◌, map, length, get_or, All, Option, Some, refl, sym, ap, ◌∙◌, subst, arith, append_assoc, append-nil}
 use Rattle.std.specs.Prelude.{◌==◌, filter, slice_set}
 use Rattle.std.specs.List.{flat_map, sum_by}
 use Rattle.std.proofs.lemmas.Bool.{cases_lt, eq-eqb, eqb-true, ne_eqb}
@@ -11,6 +11,7 @@ use Rattle.lethe_disk.specs.declared.disk.Disk.{Ghosts}
 use Rattle.lethe_snapshot.specs.declared.snapshot.Snapshot.{Snapshot}
 use Rattle.lethe_core.specs.View.{View}
 use Rattle.lethe_script.specs.declared.order.Order.{Order}
+use Rattle.lethe_script.specs.Slots.{held_through, orders_by}
 use Rattle.lethe_run.specs.declared.reply.Line.{Line}
 use Rattle.lethe_run.specs.declared.reply.Line.TheVariants as line
 use Rattle.lethe_run.specs.Anywhere.{AreTold, Standing, caller_in, standing_of}
@@ -20,7 +21,7 @@ use Rattle.lethe_run.specs.Holding.{AreShown, AreTen, held_at, held_for, held_in
 use Rattle.lethe_run.specs.Rows.{IsStretch}
 use Rattle.lethe_run.specs.Serving.{IsOn, IsPhase, Point}
 use Rattle.lethe_run.specs.Slots.{AreInSlots, Slots, no_slots}
-use Rattle.lethe_run.specs.Transcript.{Start, callers, is_of, orders_by, places_behind, printed}
+use Rattle.lethe_run.specs.Transcript.{Start, callers, is_of, places_behind, printed}
 use Rattle.lethe_run.proofs.Anywhere.{later_itself, told_wider}
 use Rattle.lethe_run.proofs.Calm.{printed_len}
 use Rattle.lethe_run.proofs.Holding.{shown_later}
@@ -218,6 +219,10 @@ fronts_of_all orders parts are eight fronts = record {
       | inr not ↦ ([], strange (suc m) (λ is. let high = is.upto in omega (arith, high, not)))
     ]
 
+-- none of them
+pub none_fronts : (orders : List Order) → AreFronts orders []
+none_fronts orders = record { cut = λ caller. (orders_by caller orders, refl); printed = refl; callers = All-nil (λ (order : Order). IsCaller order.caller) }
+
 -- where they are all of them
 pub all_of_all : (orders : List Order) (parts : List (List Order)) → All (λ (order : Order). IsCaller order.caller) orders → parts ≡ each_own orders → AreAll orders (all_in parts)
 all_of_all orders parts are is = record {
@@ -288,6 +293,11 @@ next_fronts orders part rest parts index fronts size is =
 -- the part of the next caller is its own
 pub part_is_own : (index : ℕ) (orders part rest : List Order) → orders_by (suc index) orders ≡ part ++ rest → AreOf (suc index) part
 part_is_own index orders part rest is = front_is_own index orders part (rest, is)
+
+pub own_get : (n k index : ℕ) (orders default : List Order) → index < k → get_or (map (λ caller. orders_by caller orders) (places_behind n k)) index default ≡ orders_by (suc (n + index)) orders
+own_get n zero index orders default within = absurd (omega (arith, within))
+own_get n (suc k) zero orders default within = ap (λ m. orders_by (suc m) orders) (let same : n ≡ n + 0 = omega arith in same)
+own_get n (suc k) (suc index) orders default within = own_get (suc n) k index orders default (omega (arith, within)) ∙ ap (λ m. orders_by (suc m) orders) (let same : suc n + index ≡ n + suc index = omega arith in same)
 
 -- one order more isn't of another caller
 one_still : (caller : ℕ) (orders : List Order) (order : Order) → order.caller ≢ caller → orders_by caller orders ≡ orders_by caller (orders ++ order ∷ [])
@@ -392,3 +402,22 @@ module _ {D Page Port : Type 0} {kind : Ghosts D Page Port} (held : List (List (
 
   pub ten_more : AreTen held → length next ≡ 10 → AreTen (slice_set held index next)
   ten_more tens ten = record { eight = length-set held index next ∙ tens.eight; ten = All-set (λ own. length own ≡ 10) held index next ten tens.ten }
+
+-- nobody has the number 0
+pub none_of_nobody : {D Page Port : Type 0} {kind : Ghosts D Page Port} (orders : List Order) (held : List (List (Option (Snapshot D Page Port kind)))) (caller : ℕ) → All (λ (order : Order). IsCaller order.caller) orders → caller ≤ 0
+    → held_through (orders_by caller orders) (held_for caller held) ≡ Some (held_for caller held)
+none_of_nobody orders held zero are low =
+    ap (λ l. held_through l (held_for zero held))
+    (by_nobody 0 orders (All-weaker (λ (order : Order). IsCaller order.caller) (λ (order : Order). order.caller ≢ 0) (λ order is same. let from = is.from in omega (arith, from, same)) orders are))
+none_of_nobody orders held (suc caller) are low = absurd (omega (arith, low))
+
+-- where it is above eight, too
+pub none_of_strange : (orders : List Order) (caller : ℕ) → All (λ (order : Order). IsCaller order.caller) orders → 8 < caller → orders_by caller orders ≡ []
+none_of_strange orders caller are above =
+    by_nobody caller orders (All-weaker (λ (order : Order). IsCaller order.caller) (λ (order : Order). order.caller ≢ caller) (λ order is same. let upto = is.upto in omega (arith, upto, same, above)) orders are)
+
+-- what stands at an index, seen by f
+pub seen_at : {X Y : Type 0} (f : X → Y) (xs : List X) (index : ℕ) (x : X) (default : Y) → index < length xs → x ≡ get_or xs index x → f x ≡ get_or (map f xs) index default
+seen_at f [] index x default within is = absurd (omega (arith, within))
+seen_at f (y ∷ xs) zero x default within is = ap f is
+seen_at f (y ∷ xs) (suc index) x default within is = seen_at f xs index x default (omega (arith, within)) is

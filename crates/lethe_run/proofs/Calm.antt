@@ -15,13 +15,14 @@ use Rattle.lethe_recover.specs.declared.opening.OpenWhy.{OpenWhy}
 use Rattle.lethe_recover.specs.declared.opening.OpenWhy.TheVariants as open_why
 use Rattle.lethe_script.specs.declared.order.Order.{Order}
 use Rattle.lethe_script.specs.declared.order.Act.{Act}
+use Rattle.lethe_script.specs.Slots.{orders_by}
 use Rattle.lethe_run.specs.declared.reply.Line.{Line}
 use Rattle.lethe_run.specs.declared.reply.Line.TheVariants as line
 use Rattle.lethe_run.specs.declared.reply.Reply.{Reply}
 use Rattle.lethe_run.specs.declared.reply.Reply.TheVariants as reply
 use Rattle.lethe_run.specs.Carried.{IsCarriedOut}
 use Rattle.lethe_run.specs.Ends.{Run, course_of}
-use Rattle.lethe_run.specs.Transcript.{Course, Told, IsShort, IsUsedUp, most_of_a_change, call_of, Answers, Answered, IsFailedAt, IsFaultOf, IsServed, AreServed, orders_by, place_of, places_behind, printed, is_refusal, has_refusal}
+use Rattle.lethe_run.specs.Transcript.{Course, Told, IsShort, IsUsedUp, most_of_a_change, call_of, Answers, Answered, IsFailedAt, IsFaultOf, IsServed, AreServed, place_of, places_behind, printed, is_refusal, has_refusal}
 use Rattle.std.proofs.lemmas.Bool.{eqb-true, ne_eqb}
 use Rattle.std.proofs.lemmas.List.{length-append, length_push}
 use Rattle.std.proofs.lemmas.List.Sorted.{length_permutation}
@@ -64,10 +65,10 @@ placed_len start h lines once = sym (behind_len (length start) (length h - lengt
 -- caller by caller there are no more than in the script
 
 -- how many of a caller stand in front, one or none
-is_one : ℕ → Order → ℕ
+abbrev is_one : ℕ → Order → ℕ
 is_one caller order = cond (order.caller == caller) 1 0
 
-count_behind : ℕ → ℕ → Order → ℕ
+abbrev count_behind : ℕ → ℕ → Order → ℕ
 count_behind n zero order = 0
 count_behind n (suc k) order = is_one (suc n) order + count_behind (suc n) k order
 
@@ -79,30 +80,29 @@ none_behind n (suc k) order low =
 
 one_behind : (n k : ℕ) (order : Order) → count_behind n k order ≤ 1
 one_behind n zero order = omega arith
-one_behind n (suc k) order = by (order.caller == suc n) refl
+one_behind n (suc k) order = by (order.caller == suc n) refl (one_behind (suc n) k order)
   where
-    by : (b : Bool) → (order.caller == suc n) ≡ b → is_one (suc n) order + count_behind (suc n) k order ≤ 1
-    by true same =
+    by : (b : Bool) → (order.caller == suc n) ≡ b → count_behind (suc n) k order ≤ 1 → is_one (suc n) order + count_behind (suc n) k order ≤ 1
+    by true same rest =
         let first : is_one (suc n) order ≡ 1 = ap (λ b. cond b 1 0) same in
-        let rest = none_behind (suc n) k order (let is = eqb-true order.caller (suc n) same in omega (arith, is)) in
-        omega (arith, first, rest)
-    by false other =
+        let none = none_behind (suc n) k order (let is = eqb-true order.caller (suc n) same in omega (arith, is)) in
+        omega (arith, first, none)
+    by false other rest =
         let first : is_one (suc n) order ≡ 0 = ap (λ b. cond b 1 0) other in
-        let rest = one_behind (suc n) k order in
         omega (arith, first, rest)
 
 by_len : (caller : ℕ) (order : Order) (orders : List Order) → length (orders_by caller (order ∷ orders)) ≡ is_one caller order + length (orders_by caller orders)
 by_len caller order orders = by (order.caller == caller)
   where
     by : (b : Bool) → length (cond b (order ∷ orders_by caller orders) (orders_by caller orders)) ≡ cond b 1 0 + length (orders_by caller orders)
-    by true = refl
-    by false = refl
+    by true = omega arith
+    by false = omega arith
 
-all_by : ℕ → ℕ → List Order → List Order
+abbrev all_by : ℕ → ℕ → List Order → List Order
 all_by n k orders = flat_map (λ caller. orders_by caller orders) (places_behind n k)
 
 all_len : (n k : ℕ) (order : Order) (orders : List Order) → length (all_by n k (order ∷ orders)) ≡ count_behind n k order + length (all_by n k orders)
-all_len n zero order orders = refl
+all_len n zero order orders = omega arith
 all_len n (suc k) order orders =
     let whole = length-append (orders_by (suc n) (order ∷ orders)) (all_by (suc n) k (order ∷ orders)) in
     let parts = length-append (orders_by (suc n) orders) (all_by (suc n) k orders) in

@@ -15,6 +15,7 @@ use Rattle.lethe_engine.specs.StandsFor.{Opened, StandsSince}
 use Rattle.lethe_core.specs.View.{View}
 use Rattle.lethe_script.specs.declared.order.Order.{Order}
 use Rattle.lethe_wire.specs.Causes.{AppendsFront}
+use Rattle.lethe_script.specs.Slots.{orders_by}
 use Rattle.lethe_run.specs.declared.reply.Line.{Line}
 use Rattle.lethe_run.specs.declared.reason.Reason.{Reason}
 use Rattle.lethe_run.specs.declared.reason.Reason.TheVariants.{Nothing, Words, Source, Sink, NotOpened, NoMemory, Answer}
@@ -28,7 +29,7 @@ use Rattle.lethe_run.specs.Refusals.{IsFirstOr, all_of}
 use Rattle.lethe_run.specs.Scripts.{All, Behind, Inside, IsToldFrom, Serves, ScriptEnds, IsCutBy, reason_for}
 use Rattle.lethe_run.specs.Serving.{IsOn, IsPhase, Point, opened_in}
 use Rattle.lethe_run.specs.Slots.{AreInSlots, Slots, no_slots}
-use Rattle.lethe_run.specs.Transcript.{Start, is_of, orders_by, printed, text_of}
+use Rattle.lethe_run.specs.Transcript.{Start, is_of, printed, text_of}
 use Rattle.lethe_run.proofs.Anywhere.{as_many, stands_still, through_more}
 use Rattle.lethe_run.proofs.Callers.{by_append, told_callers}
 use Rattle.lethe_run.proofs.Images.{calls_then}

@@ -17,6 +17,7 @@ use Rattle.lethe_stored.specs.Files.{Parts}
 use Rattle.lethe_script.specs.declared.order.Act.{Act}
 use Rattle.lethe_script.specs.declared.order.Act.TheVariants.{Get, Scan, Stat, Tick, Pin}
 use Rattle.lethe_script.specs.declared.order.Order.{Order}
+use Rattle.lethe_script.specs.Slots.{orders_by}
 use Rattle.lethe_run.specs.declared.reply.Line.{Line}
 use Rattle.lethe_run.specs.declared.reply.Line.TheVariants as line
 use Rattle.lethe_run.specs.declared.reply.Reply.{Reply}
@@ -24,7 +25,7 @@ use Rattle.lethe_run.specs.declared.reply.Reply.TheVariants.{Done, Ticked, Got, 
 use Rattle.lethe_run.specs.Pins.{InPins, Pins, no_pins, pins_of}
 use Rattle.lethe_run.specs.Refusals.{all_of}
 use Rattle.lethe_run.specs.Slots.{AreInSlots, Slots, no_slots}
-use Rattle.lethe_run.specs.Transcript.{AreTurned, IsRead, call_of, change_of, orders_by, is_of, most_of_a_change, printed}
+use Rattle.lethe_run.specs.Transcript.{AreTurned, IsRead, call_of, change_of, is_of, most_of_a_change, printed}
 
 -- How many places are taken, the place of the change that failed, if one did, the clock, and the pins; and as they are in memory the next number of an object, and how many entries the
 -- headers of all files count.

@@ -1,18 +1,18 @@
 -- What carrying out a phase caller by caller comes to.
-use Rattle.std.specs.Prelude.{◌≡◌, ◌≤◌, ◌<◌, ℕ, List, filter, map, All, Option, IsSome}
+use Rattle.std.specs.Prelude.{◌≡◌, ◌≤◌, ◌<◌, ℕ, List, filter, map, All, Option}
 use Rattle.lethe_base.specs.History.{History}
 use Rattle.lethe_disk.specs.declared.disk.Disk.{Ghosts}
 use Rattle.lethe_snapshot.specs.declared.snapshot.Snapshot.{Snapshot}
 use Rattle.lethe_core.specs.View.{View}
 use Rattle.lethe_script.specs.declared.order.Order.{Order}
-use Rattle.lethe_script.specs.Slots.{held_through, none_held}
+use Rattle.lethe_script.specs.Slots.{orders_by}
 use Rattle.lethe_run.specs.declared.reply.Line.{Line}
 use Rattle.lethe_run.specs.Anywhere.{AreTold, standing_of}
 use Rattle.lethe_run.specs.Ends.{IsFrontByCaller}
 use Rattle.lethe_run.specs.Holding.{AreShown, slots_for}
 use Rattle.lethe_run.specs.Serving.{IsOn, IsPhase, Point}
 use Rattle.lethe_run.specs.Slots.{AreInSlots}
-use Rattle.lethe_run.specs.Transcript.{Start, callers, orders_by, is_of, printed}
+use Rattle.lethe_run.specs.Transcript.{Start, callers, is_of, printed}
 
 -- a number of a caller
 pub record IsCaller (caller : ℕ) : Type 0 where
@@ -22,10 +22,6 @@ pub record IsCaller (caller : ℕ) : Type 0 where
 -- the orders of each caller, as they stand in the script
 abbrev pub each_own : List Order → List (List Order)
 each_own orders = map (λ caller. orders_by caller orders) callers
-
--- the orders of each caller find their slots, where none is held at first
-abbrev pub AreSlottedByCaller : List Order → Type 0
-AreSlottedByCaller orders = (caller : ℕ) → IsSome (held_through (orders_by caller orders) none_held)
 
 -- of each caller the first orders, caller by caller
 pub record AreFronts (orders part : List Order) : Type 0 where

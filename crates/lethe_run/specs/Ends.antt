@@ -24,12 +24,13 @@ use Rattle.lethe_recover.specs.declared.opening.OpenWhy.TheVariants as open_why
 use Rattle.lethe_script.specs.declared.order.Order.{Order}
 use Rattle.lethe_script.specs.declared.refused.BadLine.{BadLine}
 use Rattle.lethe_script.specs.Grammar.{script_of}
+use Rattle.lethe_script.specs.Slots.{orders_by}
 use Rattle.lethe_run.specs.declared.reply.Line.{Line}
 use Rattle.lethe_run.specs.Asked.{config_of}
 use Rattle.lethe_run.specs.Anywhere.{IsPlausible}
 use Rattle.lethe_run.specs.Carried.{IsCarriedOut}
 use Rattle.lethe_run.specs.Printed.{bad_words, bad_line, lines_text, open_line}
-use Rattle.lethe_run.specs.Transcript.{Course, course, orders_by, most_of_a_change, text_of, has_refusal}
+use Rattle.lethe_run.specs.Transcript.{Course, course, most_of_a_change, text_of, has_refusal}
 
 -- What a run was given, and what it left. Of the source and the sink: what the one had and the other has taken, where they tell it, and
 -- whether their counts of faults rose. Of the disk: what it was and is, where its kind tells it, its counts of faults, and whether its ports can fail.

@@ -16,6 +16,7 @@ use Rattle.lethe_base.specs.History.{History, Change, change_at, after, IsLegal}
 use Rattle.lethe_base.specs.Read.{Read, Answer, answer}
 use Rattle.lethe_base.specs.Read as answers
 use Rattle.lethe_script.specs.declared.order.Order.{Order}
+use Rattle.lethe_script.specs.Slots.{orders_by}
 use Rattle.lethe_script.specs.declared.order.Act.{Act}
 use Rattle.lethe_script.specs.declared.order.Act.TheVariants.{Put, Get, Scan, Delete, Erase, Stat, Tick, Pin, PinGet, PinScan, Unpin}
 use Rattle.lethe_run.specs.declared.reply.Line.{Line}
@@ -219,10 +220,6 @@ Answers told caller act (Damaged page) = ⊥
 -- the lines of a phase
 abbrev pub Lines : Type 0
 Lines = List Line
-
--- the orders of a caller
-abbrev pub orders_by : ℕ → List Order → List Order
-orders_by caller orders = filter (λ order. order.caller == caller) orders
 
 -- the callers that a script may have
 abbrev pub callers : List ℕ

@@ -57,6 +57,7 @@ pub(crate) fn serve_order<D: Disk>(
     ensures capacity { vec_capacity lines.old ≤ vec_capacity lines.new }
 {
     let Order { caller, act, .. } = order;
+    let caller = caller.get();
     match change_in(act) {
         Ok(change) => {
             if caller == queue.caller {

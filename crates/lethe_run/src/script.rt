@@ -6,7 +6,7 @@ ghost use Rattle.lethe_base.specs.Counts.{Rose};
 ghost use Rattle.lethe_base.specs.Limits.{max_place};
 ghost use Rattle.lethe_core.specs.Running.{IsSound};
 ghost use Rattle.lethe_core.specs.View.{view_of};
-ghost use Rattle.lethe_run.specs.Callers.{AreSlottedByCaller};
+ghost use Rattle.lethe_script.specs.Slots.{AreSlotted};
 ghost use Rattle.lethe_run.specs.Holding.{held_by};
 ghost use Rattle.lethe_run.specs.Refusals.{IsFirstOr};
 ghost use Rattle.lethe_run.specs.Scripts.{ScriptEnds, IsCutBy, reason_for};
@@ -36,7 +36,7 @@ pub(crate) fn serve_script<K: Sink, D: Disk>(
     requires rounds { engine.core.begun.rounds + sum_by length phases ≤ max_place }
     requires made { engine.core.pins.made + sum_by length phases ≤ max_place }
     // Each order finds its slot as it needs it, where none holds a pin at first.
-    requires slotted { AreSlottedByCaller (flat_map (λ orders. orders) phases) }
+    requires slotted { AreSlotted (flat_map (λ orders. orders) phases) }
     ensures ends { ScriptEnds D.tells D.ports_fail (view_of engine.core) (D.seen result.1) (D.faults result.1)
         (K.taken sink.old) (K.taken sink.new) (Rose (K.faults sink.old) (K.faults sink.new)) phases result.0 }
     ensures faults { D.faults engine.core.disk ≤ D.faults result.1 }
@@ -66,7 +66,7 @@ fn serve_phases<K: Sink, D: Disk>(
     requires rounds { engine.core.begun.rounds + sum_by length phases ≤ max_place }
     requires made { engine.core.pins.made + sum_by length phases ≤ max_place }
     // Each order finds its slot as it needs it, where none holds a pin at first.
-    requires slotted { AreSlottedByCaller (flat_map (λ orders. orders) phases) }
+    requires slotted { AreSlotted (flat_map (λ orders. orders) phases) }
     requires none { held_by slots.of.items ≡ replicate 8 (replicate 10 None) }
     ensures ends { ScriptEnds D.tells D.ports_fail (view_of engine.core) (D.seen result.1) (D.faults result.1)
         (K.taken sink.old) (K.taken sink.new) (Rose (K.faults sink.old) (K.faults sink.new)) phases result.0 }

@@ -4,19 +4,18 @@ ghost use Rattle.lethe_base.specs.Limits.{max_place};
 ghost use Rattle.lethe_core.specs.Running.{IsSound};
 ghost use Rattle.lethe_core.specs.View.{view_of};
 ghost use Rattle.lethe_script.specs.declared.order.Order.{Order};
-ghost use Rattle.lethe_script.specs.Slots.{held_through};
+ghost use Rattle.lethe_script.specs.Slots.{held_through, orders_by};
 ghost use Rattle.lethe_run.specs.Holding.{AreTen, held_by, held_for, held_in};
 ghost use Rattle.lethe_run.specs.Rows.{IsStretch};
 ghost use Rattle.lethe_run.specs.Callers.{AreAll, AreFronts, IsCaller, IsPhaseOfAll, each_own};
-ghost use Rattle.lethe_run.specs.Transcript.{orders_by};
 
 use crate::reply::Line;
 use crate::row::{Queue, serve_order, serve_row};
-use crate::slots::{CALLERS, CallerSlots, Slots};
+use crate::slots::{CallerSlots, Slots};
 use lethe_base::NoMemory;
 use lethe_disk::Disk;
 use lethe_engine::Engine;
-use lethe_script::Order;
+use lethe_script::{CALLERS, Order};
 use std::alloc::Global;
 use std::collections::VecDeque;
 
@@ -87,7 +86,7 @@ fn by_caller(alloc: Global, orders: Vec<Order>) -> Result<Vec<Vec<Order>>, NoMem
         own.push(Vec::new(alloc)).unwrap();
     }
     for order in orders {
-        own[(order.caller - 1) as usize].push(order)?;
+        own[order.caller.index()].push(order)?;
     }
     Ok(own)
 }

@@ -7,12 +7,9 @@ ghost use Rattle.lethe_core.specs.View.{view_of};
 use lethe_base::NoMemory;
 use lethe_disk::Disk;
 use lethe_engine::Engine;
-use lethe_script::{SLOTS, Slot};
+use lethe_script::{CALLERS, SLOTS, Slot};
 use lethe_snapshot::Snapshot;
 use std::alloc::Global;
-
-/// How many callers a script may have.
-pub(crate) const CALLERS: usize = 8;
 
 /// The ten slots of a caller. What one holds is a snapshot, which has to be released.
 pub(crate) struct Slots<D: Disk> {

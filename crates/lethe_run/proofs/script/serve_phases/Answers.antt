@@ -1,4 +1,4 @@
-use Rattle.std.proofs.Common.{rules, ◌≡◌, ◌≤◌, ◌+◌, ◌++◌, length, ◌∷◌, [], Some, refl, sym, ap, ◌∙◌, subst, arith}
+use Rattle.std.proofs.Common.{rules, ◌≡◌, ◌≤◌, ◌+◌, ◌++◌, ℕ, length, ◌∷◌, [], Some, refl, sym, ap, ◌∙◌, subst, arith}
 use Rattle.std.specs.Prelude.{All, IsSome}
 use Rattle.std.specs.List.{flat_map, sum_by}
 use Rattle.std.proofs.lemmas.List.{length-append, map-id}
@@ -9,11 +9,10 @@ use Rattle.lethe_base.specs.Counts.{Rose}
 use Rattle.lethe_base.specs.Limits.{max_place}
 use Rattle.lethe_core.specs.View.{view_of}
 use Rattle.lethe_script.specs.declared.order.Order.{Order}
-use Rattle.lethe_script.specs.Slots.{held_through, none_held}
+use Rattle.lethe_script.specs.Slots.{held_through, none_held, orders_by}
 use Rattle.lethe_run.specs.Refusals.{IsFirstOr, all_of}
 use Rattle.lethe_run.specs.Holding.{AreShown, held_by, held_for, slots_for}
 use Rattle.lethe_run.specs.Scripts.{ScriptEnds}
-use Rattle.lethe_run.specs.Transcript.{orders_by}
 use Rattle.lethe_run.proofs.Callers.{by_append}
 use Rattle.lethe_run.proofs.Endings.{Before, before_any, next_so_far, cut_ends, all_ends, served_phase}
 use Rattle.lethe_run.proofs.Holding.{no_slots_for, none_for, none_shown, none_ten}
@@ -41,7 +40,7 @@ loop-orders-init g c =
         appends_none (g.K.Sink.taken c.args.sink.now),
         refl,
         refl,
-        before_any g.D.Disk.tells g.D.Disk.ports_fail old (λ caller. slots_for caller held) (λ h. All (AreShown h) held) (no_slots_for held c.requires.none) (λ h. none_shown h held c.requires.none),
+        before_any g.D.Disk.tells g.D.Disk.ports_fail old (λ caller. slots_for caller held) (λ h. All (AreShown h) held) (no_slots_for held c.requires.none) (none_shown held c.requires.none),
       );
     }
 
@@ -56,8 +55,8 @@ loop-orders-preserved g c =
     let laws = g.met.D.Disk g.world.𝓛 g.world.𝓜 g.world.𝓡 ((λ s x. x), (λ x. x), (λ x. x), λ x. x) in
     let was = held_by c.loop-orders.slots.of.items in
     let held = held_by c.serve_phase-served.new.slots.of.items in
-    let between = λ caller. slots_for caller was in
-    let behind = λ caller. slots_for caller held in
+    let between = λ (caller : ℕ). slots_for caller was in
+    let behind = λ (caller : ℕ). slots_for caller held in
     let served = c.serve_phase-served.ensures.served in
     let up = served.3.faults in
     let phase = served_phase g.D.Disk.tells g.D.Disk.ports_fail mid new was held _ c.in-Some.orders whole more c.into_vec.ensures served in
@@ -110,8 +109,8 @@ returns-in-Err-clause-ends g c =
     let laws = g.met.D.Disk g.world.𝓛 g.world.𝓜 g.world.𝓡 ((λ s x. x), (λ x. x), (λ x. x), λ x. x) in
     let was = held_by c.loop-orders.slots.of.items in
     let held = held_by c.serve_phase-served.new.slots.of.items in
-    let between = λ caller. slots_for caller was in
-    let behind = λ caller. slots_for caller held in
+    let between = λ (caller : ℕ). slots_for caller was in
+    let behind = λ (caller : ℕ). slots_for caller held in
     let served = c.serve_phase-served.ensures.served in
     let up = served.3.faults in
     let phase = served_phase g.D.Disk.tells g.D.Disk.ports_fail mid new was held _ c.in-Some.orders whole more c.into_vec.ensures served in

@@ -3,11 +3,11 @@ use Rattle.std.specs.List.{flat_map, sum_by}
 use Rattle.std.specs.Io.KnownBytes.{Appends}
 use Rattle.lethe_core.specs.Running.{IsSound}
 use Rattle.lethe_core.specs.View.{view_of}
-use Rattle.lethe_script.specs.Slots.{held_through, none_held}
+use Rattle.lethe_script.specs.Slots.{held_through, none_held, orders_by}
 use Rattle.lethe_run.specs.declared.reply.Line.{Line}
 use Rattle.lethe_run.specs.Refusals.{IsFirstOr, all_of}
 use Rattle.lethe_run.specs.Holding.{AreShown, AreTen, held_by, held_for, slots_for}
-use Rattle.lethe_run.specs.Transcript.{orders_by, text_of}
+use Rattle.lethe_run.specs.Transcript.{text_of}
 use Rattle.lethe_run.proofs.Endings.{Before}
 use Rattle.lethe_run.proofs.script.serve_phases.Given as goal
 

@@ -2,11 +2,10 @@ use Rattle.std.proofs.Common.{◌≡◌, ◌≤◌, ◌<◌, ◌+◌, true, List
 use Rattle.std.specs.Prelude.{◌-◌, ℕ, suc, sum_by, vec_len, vec_capacity}
 use Rattle.lethe_core.specs.Running.{IsSound}
 use Rattle.lethe_core.specs.View.{view_of}
-use Rattle.lethe_script.specs.Slots.{held_through}
+use Rattle.lethe_script.specs.Slots.{held_through, orders_by}
 use Rattle.lethe_script.specs.declared.order.Order.{Order}
 use Rattle.lethe_run.specs.Callers.{IsPhaseOfAll}
 use Rattle.lethe_run.specs.Holding.{AreTen, held_by, held_for}
-use Rattle.lethe_run.specs.Transcript.{orders_by}
 use Rattle.lethe_run.proofs.Callers.{FrontsFrom, all_in}
 use Rattle.lethe_run.proofs.serve.serve_phase.Given as goal
 
