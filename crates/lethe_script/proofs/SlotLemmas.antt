@@ -172,6 +172,7 @@ all_found (order ∷ orders) held eight called found =
     let next = set held (order.caller - 1) step.0 in
     let here : all_held_behind order held ≡ Some next = ap (option_map (λ own. set held (order.caller - 1) own)) step.1 in
     let on : all_held_through (order ∷ orders) held ≡ all_held_through orders next = ap (option_and_then (λ behind. all_held_through orders behind)) here in
-    let (behind, through) = all_found orders next (length-set held (order.caller - 1) step.0 ∙ eight) (All-tail IsOfCaller order orders called)
+    let kept : length next ≡ 8 = length-set held (order.caller - 1) step.0 ∙ eight in
+    let (behind, through) = all_found orders next kept (All-tail IsOfCaller order orders called)
       (λ caller one. subst IsSome (along_order order is_of held eight step.0 step.1 orders caller one) (found caller one)) in
     (behind, on ∙ through)
