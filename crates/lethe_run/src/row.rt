@@ -56,7 +56,8 @@ pub(crate) fn serve_order<D: Disk>(
     ensures room { vec_len lines.new + length queue.new.changes.items ≤ vec_len lines.old + length queue.old.changes.items + 1 }
     ensures capacity { vec_capacity lines.old ≤ vec_capacity lines.new }
 {
-    let Order { caller, act, .. } = order;
+    let caller = order.caller.get();
+    let act = order.act;
     match change_in(act) {
         Ok(change) => {
             if caller == queue.caller {
