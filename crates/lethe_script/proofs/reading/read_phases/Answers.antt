@@ -14,7 +14,7 @@ returns-in_err-push_line c =
     let refused = rw c.without_cr.ensures at c.in_err-push_line.ensures in
     let so_far = c.loop-text.reading in
     rw (p.1, p.2) (item_refused c.args.is_long so_far.ended.items so_far.open.items c.loop-text.line so_far.held c.loop-text.rest.now c.in-Some.text.now c.in-Some.after.now _ c.in-Some.ensures.lines_are
-    c.loop-text.invariant.told _ refused)
+      c.loop-text.invariant.told _ refused)
 
 pub loop-text-preserved : goal.loop-text-preserved
 loop-text-preserved c =
@@ -22,7 +22,7 @@ loop-text-preserved c =
     let so_far = c.loop-text.reading in
     record {
       told = item_read c.args.is_long so_far.ended.items so_far.open.items c.loop-text.line so_far.held c.loop-text.rest.now c.in-Some.text.now c.in-Some.after.now _ c.in-Some.ensures.lines_are
-          c.loop-text.invariant.told _ _ read;
+        c.loop-text.invariant.told _ _ read;
       few = omega (arith, c.in-Some.ensures.shorter);
     }
 
@@ -36,7 +36,7 @@ returns-in_err-push_line-2 c =
     let p = err_from_is_err_and c.from_residual-in_err-push_line-2.result c.from_residual-in_err-push_line-2.ensures.1 in
     let so_far = c.loop-text.reading in
     rw (p.1, p.2) (last_refused c.args.is_long so_far.ended.items so_far.open.items c.loop-text.line so_far.held c.loop-text.rest.now _ c.in_default.ensures c.loop-text.invariant.told _
-    c.if-is_long.false c.in_err-push_line-2.ensures)
+      c.if-is_long.false c.in_err-push_line-2.ensures)
 
 pub returns : goal.returns
 returns c =
