@@ -1,9 +1,9 @@
-//! Keys and values of texts.
+//! Keys of texts, and values.
 
 use lethe_base::{Key, Value};
 use std::alloc::Global;
 
-/// There is no memory, or the text is none that a key or a value may have.
+/// There is no memory, or the bytes are none that a key or a value may have.
 #[derive(Clone, Copy, Debug)]
 pub struct NotMade;
 
@@ -13,8 +13,8 @@ pub fn key_of(alloc: Global, text: &str) -> Result<Key, NotMade> {
     Key::new(bytes).map_err(|_| NotMade)
 }
 
-/// The value of a text.
-pub fn value_of(alloc: Global, text: &str) -> Result<Value, NotMade> {
-    let bytes = text.as_bytes().to_vec(alloc).map_err(|_| NotMade)?;
+/// The value of these bytes.
+pub fn value_of(alloc: Global, bytes: &[u8]) -> Result<Value, NotMade> {
+    let bytes = bytes.to_vec(alloc).map_err(|_| NotMade)?;
     Value::new(bytes).map_err(|_| NotMade)
 }
