@@ -6,6 +6,6 @@ mod small;
 mod texts;
 
 pub use lethe_test_values::SMALL_WORDS;
-pub use run::{Left, Printed, answered, answered_for, must_print, run_of, run_on, run_over};
-pub use small::{answered_small, open_small};
+pub use run::{Left, Printed, run_of, run_on, run_over};
+pub use small::open_small;
 pub use texts::{bytes_of, count_lines, done_lines, filled, repeated, text_of};
