@@ -1,10 +1,10 @@
 //! Disks that a run doesn't open, or where numbers run out, and runs that leave their disk untouched.
 
-use crate::common::{answered, check_printed, empty_disk, many, must};
+use crate::common::{answered, answered_small, check_printed, empty_disk, many, must};
 use lethe_base::{Kind, Name};
 use lethe_images::{add, disk_of, names_of, objects_of};
 use lethe_memdisk::MemDisk;
-use lethe_rows::{Left, bytes_of, open_small, run_over};
+use lethe_rows::{Left, bytes_of, run_over};
 use std::alloc::Global;
 use std::process::Abort;
 
@@ -126,19 +126,13 @@ fn a_sink_that_fails_over_a_damaged_store_leaves_it_as_it_was(rt: HostRuntime) {
     check_unprinted(rt.alloc(), &rt, gated(rt.alloc(), &rt, 0, 3));
 }
 
-// The disk of a new store of the small configuration.
-fn small_disk(alloc: Global, rt: &impl Abort) -> MemDisk {
-    let mut disk = empty_disk(alloc, rt);
-    must(rt, open_small(alloc, &mut disk));
-    disk
-}
-
 #[test]
 fn a_store_of_another_configuration_is_not_opened(rt: HostRuntime) {
     let alloc = rt.alloc();
     let text =
         "other config kept threshold=100 ratio=2 levels=2 page=2 tile=2 file=2 buffer=4 pick=so asked threshold=1000 ratio=4 levels=3 page=64 tile=4 file=8 buffer=512 pick=so\n";
-    let disk = answered(alloc, &rt, "1 put a 5 x\n", small_disk(alloc, &rt), 9, text);
+    let disk = answered_small(alloc, &rt, "", empty_disk(alloc, &rt), 0, "");
+    let disk = answered(alloc, &rt, "1 put a 5 x\n", disk, 9, text);
     answered(alloc, &rt, "1 get a\n", disk, 9, text);
 }
 
