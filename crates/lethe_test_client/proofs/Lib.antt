@@ -1,0 +1,9 @@
+pub mod Changes
+pub mod Clients
+pub mod Empty
+pub mod Ending
+pub mod Lefts
+pub mod Lines
+pub mod Reading
+pub mod Replies
+pub mod Words
