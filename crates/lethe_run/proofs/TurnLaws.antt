@@ -80,17 +80,18 @@ pub record IsCutSo {X : Type 0} (p : X → Bool) (xs front : List X) (x : X) (be
 cut_so : {X : Type 0} (p : X → Bool) (xs front : List X) (x : X) (behind : List X) → filter p xs ≡ front ++ x ∷ behind → IsCutSo p xs front x behind
 cut_so p [] [] x behind are = absurd (let clash : [] ≡ x ∷ behind = are in cc)
 cut_so p [] (f ∷ front) x behind are = absurd (let clash : [] ≡ f ∷ (front ++ x ∷ behind) = are in cc)
-cut_so {X} p (y ∷ ys) front x behind are = by (p y) front refl are
+cut_so {X} p (y ∷ ys) front x behind are = by (λ front are. cut_so p ys front x behind are) (p y) front refl are
   where
-    by : (b : Bool) (front : List X) → p y ≡ b → cond b (y ∷ filter p ys) (filter p ys) ≡ front ++ x ∷ behind → IsCutSo p (y ∷ ys) front x behind
-    by true [] passes are =
+    by : ((front : List X) → filter p ys ≡ front ++ x ∷ behind → IsCutSo p ys front x behind)
+        → (b : Bool) (front : List X) → p y ≡ b → cond b (y ∷ filter p ys) (filter p ys) ≡ front ++ x ∷ behind → IsCutSo p (y ∷ ys) front x behind
+    by later true [] passes are =
         let same : y ≡ x = cc in
         let rest : filter p ys ≡ behind = cc in
         record { first = []; rest = ys; are = ap (λ y. y ∷ ys) same; fronts = refl; behinds = rest }
-    by true (f ∷ front) passes are =
+    by later true (f ∷ front) passes are =
         let same : y ≡ f = cc in
-        let later : filter p ys ≡ front ++ x ∷ behind = cc in
-        let cut = cut_so p ys front x behind later in
+        let rest : filter p ys ≡ front ++ x ∷ behind = cc in
+        let cut = later front rest in
         record {
           first = y ∷ cut.first;
           rest = cut.rest;
@@ -98,8 +99,8 @@ cut_so {X} p (y ∷ ys) front x behind are = by (p y) front refl are
           fronts = ap (λ b. cond b (y ∷ filter p cut.first) (filter p cut.first)) passes ∙ ap (λ l. y ∷ l) cut.fronts ∙ ap (λ y. y ∷ front) same;
           behinds = cut.behinds;
         }
-    by false front passes are =
-        let cut = cut_so p ys front x behind are in
+    by later false front passes are =
+        let cut = later front are in
         record {
           first = y ∷ cut.first;
           rest = cut.rest;
@@ -210,11 +211,11 @@ one_of_three (Damaged page) s t is = inr (inr is)
 
 all_placed : {X : Type 0} (P : X → Type 0) (limit_of : X → ℕ) (x : X) (xs : List X) → P x → All P xs → All P (placed_by limit_of x xs)
 all_placed P limit_of x [] one all = All-cons P x [] one all
-all_placed {X} P limit_of x (y ∷ xs) one all = by (nat_lt (limit_of x) (limit_of y))
+all_placed {X} P limit_of x (y ∷ xs) one all = by (nat_lt (limit_of x) (limit_of y)) (all_placed P limit_of x xs one (All-tail P y xs all))
   where
-    by : (b : Bool) → All P (cond b (x ∷ y ∷ xs) (y ∷ placed_by limit_of x xs))
-    by true = All-cons P x (y ∷ xs) one all
-    by false = All-cons P y (placed_by limit_of x xs) (All-head P y xs all) (all_placed P limit_of x xs one (All-tail P y xs all))
+    by : (b : Bool) → All P (placed_by limit_of x xs) → All P (cond b (x ∷ y ∷ xs) (y ∷ placed_by limit_of x xs))
+    by true later = All-cons P x (y ∷ xs) one all
+    by false later = All-cons P y (placed_by limit_of x xs) (All-head P y xs all) later
 
 -- each pin that is held was made by a line
 held_are_made : (Q : Limited → Type 0) (s : Pins) (lines : List Line) (t : Pins) → PinsAlong s lines t → All Q s.held
@@ -416,3 +417,136 @@ turned_upto Ports from upto (orders ∷ phases) s (b ∷ before) phase after (no
       earlier_pins = join_along s.pins now told.0.pins rest.earlier rest.middle (pins_told Ports from upto told.1.asked s now told.0 told.1.told) rest.earlier_pins;
       now_pins = rest.now_pins;
     }
+
+turned_append : (first second turned more : List Line) → AreTurned first turned → AreTurned second more → AreTurned (first ++ second) (turned ++ more)
+turned_append first second turned more a b = λ caller.
+    filter-append (is_of caller) turned more ∙ ap (λ l. l ++ filter (is_of caller) more) (a caller) ∙ ap (λ l. filter (is_of caller) first ++ l) (b caller) ∙ sym (filter-append (is_of caller) first second)
+
+own_first : (caller : ℕ) (reply : Reply) (lines : List Line) → filter (is_of caller) (line.Answer caller reply ∷ lines) ≡ line.Answer caller reply ∷ filter (is_of caller) lines
+own_first caller reply lines = ap (λ b. cond b (line.Answer caller reply ∷ filter (is_of caller) lines) (filter (is_of caller) lines)) (eq-eqb caller caller refl)
+
+-- A pin that bars
+
+-- In the one order the lines `earlier` stand in the phases before, and `first` in the phase of a line that tells so before it.
+module _ (before front behind earlier first rest : List Line) (middle end : Pins) (caller number limit : ℕ)
+    (earlier_are : AreTurned before earlier)
+    (now_are : AreTurned (front ++ line.Answer caller (Barred number limit) ∷ behind) (first ++ line.Answer caller (Barred number limit) ∷ rest))
+    (earlier_pins : PinsAlong no_pins earlier middle) (now_pins : PinsAlong middle (first ++ line.Answer caller (Barred number limit) ∷ rest) end) where
+  abbrev bar : Line
+  bar = line.Answer caller (Barred number limit)
+
+  at_bar : PinsParted middle first (bar ∷ rest) end
+  at_bar = part_along middle first (bar ∷ rest) end now_pins
+
+  along : PinsAlong no_pins (earlier ++ first) at_bar.middle
+  along = join_along no_pins earlier middle first at_bar.middle earlier_pins at_bar.first
+
+  is_held : Contains at_bar.middle.held (record { number = number; limit = limit })
+  is_held = at_bar.then.1.0
+
+  abbrev WasMade : Limited → Type 0
+  WasMade pin = (owner : ℕ) × (point : ℕ) × Contains (earlier ++ first) (line.Answer owner (Pinned point pin.number pin.limit))
+
+  was_made : WasMade (record { number = number; limit = limit })
+  was_made = All-contains WasMade at_bar.middle.held (record { number = number; limit = limit })
+      (held_are_made WasMade no_pins (earlier ++ first) at_bar.middle along (All-nil WasMade) (λ owner point number limit has. (owner, point, has))) is_held
+
+  never_gone : IsGone number at_bar.middle → ⊥
+  never_gone gone = All-contains (λ (pin : Limited). pin.number ≢ number) at_bar.middle.held (record { number = number; limit = limit }) gone.none is_held refl
+
+  -- A caller's lines up to this phase's end answer orders as its slots allow, and more lines behind them.
+  module _ (other now : ℕ) (orders : List Order) (more : List Line) (held : Slots) (slots : AreInSlots orders no_slots (filter (is_of other) (before ++ (front ++ bar ∷ behind)) ++ more) held) where
+    abbrev unpin : Line
+    unpin = line.Answer other (Unpinned now number)
+
+    module _ (has : Contains (earlier ++ first) unpin) where
+      cut : IsCut (earlier ++ first) unpin
+      cut = cut_at (earlier ++ first) unpin has
+
+      parts : PinsParted no_pins cut.front (unpin ∷ cut.behind) at_bar.middle
+      parts = part_along no_pins cut.front (unpin ∷ cut.behind) at_bar.middle (subst (λ l. PinsAlong no_pins l at_bar.middle) cut.are along)
+
+      whole : earlier ++ (first ++ bar ∷ rest) ≡ cut.front ++ unpin ∷ (cut.behind ++ bar ∷ rest)
+      whole = sym (append_assoc earlier first (bar ∷ rest)) ∙ ap (λ l. l ++ bar ∷ rest) cut.are ∙ append_assoc cut.front (unpin ∷ cut.behind) (bar ∷ rest)
+
+      abbrev behind_it : List Line
+      behind_it = filter (is_of other) (cut.behind ++ bar ∷ rest)
+
+      own_are : filter (is_of other) (before ++ (front ++ bar ∷ behind)) ≡ filter (is_of other) cut.front ++ unpin ∷ behind_it
+      own_are =
+          sym (turned_append before (front ++ bar ∷ behind) earlier (first ++ bar ∷ rest) earlier_are now_are other) ∙ ap (filter (is_of other)) whole
+          ∙ filter-append (is_of other) cut.front (unpin ∷ (cut.behind ++ bar ∷ rest)) ∙ ap (λ l. filter (is_of other) cut.front ++ l) (own_first other (Unpinned now number) (cut.behind ++ bar ∷ rest))
+
+      slots_are : AreInSlots orders no_slots (filter (is_of other) cut.front ++ unpin ∷ (behind_it ++ more)) held
+      slots_are = subst (λ l. AreInSlots orders no_slots l held) (ap (λ l. l ++ more) own_are ∙ append_assoc (filter (is_of other) cut.front) (unpin ∷ behind_it) more) slots
+
+      -- it would let a pin go that an earlier line made
+      never_let_go : ⊥
+      never_let_go = elim (unpin_made orders no_slots (filter (is_of other) cut.front) other now number (behind_it ++ more) held slots_are) [
+        | inl holds ↦ holds_none 10 holds.0 holds.1 holds.2
+        | inr made ↦
+            let given = made_counts no_pins cut.front parts.middle made.0 made.1 number made.2 parts.first (contains_filtered (is_of other) cut.front (line.Answer made.0 (Pinned made.1 number made.2)) made.3) in
+            never_gone (gone_along number parts.then.0 cut.behind at_bar.middle parts.then.2 (subst (IsGone number) (sym parts.then.1) (gone_behind number parts.middle given)))
+      ]
+
+all_upto : (before : List (List Line)) (phase : List Line) (after : List (List Line)) → all_of (before ++ phase ∷ after) ≡ (all_of before ++ phase) ++ all_of after
+all_upto before phase after = flat_map-append (λ (phase : List Line). phase) before (phase ∷ after) ∙ sym (append_assoc (all_of before) phase (all_of after))
+
+-- what bars may be held
+module _ (Ports : Type 0) (config : Fields) (from upto : ℕ) (phases : List (List Order)) (lines turned : List (List Line)) (plausible : IsPlausible Ports config from upto phases lines turned)
+    (caller number limit : ℕ) (at : IsAt lines (line.Answer caller (Barred number limit))) where
+  abbrev barred : Line
+  barred = line.Answer caller (Barred number limit)
+
+  abbrev phase : List Line
+  phase = at.front ++ barred ∷ at.behind
+
+  up : IsTurnedUpTo no_pins at.before phase
+  up = subst (λ pins. IsTurnedUpTo pins at.before phase) plausible.unpinned
+      (turned_upto Ports from upto phases plausible.opened at.before phase at.after turned plausible.end
+      (subst (λ lines. AreToldThrough Ports from upto phases plausible.opened lines turned plausible.end) at.are plausible.told))
+
+  halves : IsCutSo (is_of caller) up.now (filter (is_of caller) at.front) barred (filter (is_of caller) at.behind)
+  halves = cut_so (is_of caller) up.now (filter (is_of caller) at.front) barred (filter (is_of caller) at.behind)
+      (up.now_are caller ∙ filter-append (is_of caller) at.front (barred ∷ at.behind) ∙ ap (λ l. filter (is_of caller) at.front ++ l) (own_first caller (Barred number limit) at.behind))
+
+  turned_so : AreTurned phase (halves.first ++ barred ∷ halves.rest)
+  turned_so = subst (AreTurned phase) halves.are up.now_are
+
+  pins_so : PinsAlong up.middle (halves.first ++ barred ∷ halves.rest) up.end
+  pins_so = subst (λ l. PinsAlong up.middle l up.end) halves.are up.now_pins
+
+  pin : (owner : ℕ) × (point : ℕ) × Contains (up.earlier ++ halves.first) (line.Answer owner (Pinned point number limit))
+  pin = was_made (all_of at.before) at.front at.behind up.earlier halves.first halves.rest up.middle up.end caller number limit up.earlier_are turned_so up.earlier_pins pins_so
+
+  may_come_before : MayComeBefore at (line.Answer pin.0 (Pinned pin.1 number limit))
+  may_come_before =
+      let it = line.Answer pin.0 (Pinned pin.1 number limit) in
+      elim (Contains-append_cases up.earlier halves.first it pin.2) [
+        | inl earlier ↦ inl (turned_has (all_of at.before) up.earlier up.earlier_are it earlier)
+        | inr here ↦ inr (
+            turned_has phase (halves.first ++ barred ∷ halves.rest) turned_so it (Contains-append_left halves.first (barred ∷ halves.rest) it here),
+            λ same. contains_filtered (is_of caller) at.front it (subst (λ l. Contains l it) halves.fronts (filter_contains (is_of caller) halves.first it (eq-eqb pin.0 caller same) here)))
+      ]
+
+  not_let_go : (other now : ℕ) → Contains (up.earlier ++ halves.first) (line.Answer other (Unpinned now number)) → ⊥
+  not_let_go other now has =
+      let orders = orders_by other (flat_map (λ (orders : List Order). orders) phases) in
+      let more = filter (is_of other) (all_of at.after) in
+      let own = plausible.slots other in
+      let are : filter (is_of other) (all_of lines) ≡ filter (is_of other) (all_of at.before ++ phase) ++ more =
+      ap (λ l. filter (is_of other) (all_of l)) at.are ∙ ap (filter (is_of other)) (all_upto at.before phase at.after) ∙ filter-append (is_of other) (all_of at.before ++ phase) (all_of at.after) in
+      never_let_go (all_of at.before) at.front at.behind up.earlier halves.first halves.rest up.middle up.end caller number limit up.earlier_are turned_so up.earlier_pins pins_so
+          other now orders more own.0 (subst (λ l. AreInSlots orders no_slots l own.0) are own.1) has
+
+  kept : (other now : ℕ) → MustComeBefore at (line.Answer other (Unpinned now number)) → ⊥
+  kept other now comes =
+      let it = line.Answer other (Unpinned now number) in
+      elim comes [
+        | inl earlier ↦ not_let_go other now (Contains-append_left up.earlier halves.first it (printed_has (all_of at.before) up.earlier up.earlier_are it earlier))
+        | inr own ↦ not_let_go other now (Contains-append_right up.earlier halves.first it
+            (contains_filtered (is_of caller) halves.first it (subst (λ l. Contains l it) (sym halves.fronts) (filter_contains (is_of caller) at.front it (eq-eqb other caller own.0) own.1))))
+      ]
+
+  pub bar_may_be_held : MayBeHeld at number limit
+  bar_may_be_held = record { owner = pin.0; point = pin.1; made = may_come_before; kept = kept }
