@@ -29,7 +29,7 @@ use Rattle.lethe_run.proofs.Staying.{in_slots_append}
 
 -- What a test keeps
 
-keeps_all : {X : Type 0} (p : X → Bool) (xs : List X) → All (λ x. p x ≡ true) xs → filter p xs ≡ xs
+pub keeps_all : {X : Type 0} (p : X → Bool) (xs : List X) → All (λ x. p x ≡ true) xs → filter p xs ≡ xs
 keeps_all p [] all = refl
 keeps_all p (x ∷ xs) all = ap (λ b. cond b (x ∷ filter p xs) (filter p xs)) (all 0 x (omega arith)) ∙ ap (λ l. x ∷ l) (keeps_all p xs (All-tail (λ x. p x ≡ true) x xs all))
 

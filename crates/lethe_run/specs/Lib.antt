@@ -8,6 +8,7 @@ pub mod Ends
 pub mod Status
 pub mod Reasons
 pub mod Scans
+pub mod PinLaws
 pub mod Asked
 pub mod Replies
 pub mod Refusals
