@@ -1,5 +1,5 @@
 pub mod ScanLaws
-mod TurnLaws
+pub mod TurnLaws
 pub mod Histories
 pub mod Images
 pub mod Lasting
