@@ -1,5 +1,5 @@
 -- What the lines of a run say of a pin that bars a tick, and of the pins' numbers.
-use Rattle.std.specs.Prelude.{◌≡◌, ◌⊎◌, ℕ, List, ◌∷◌, ◌++◌, Contains, Option, Some, None}
+use Rattle.std.specs.Prelude.{◌≡◌, ◌⊎◌, ℕ, List, ◌∷◌, ◌++◌, filter_map, Contains, Option, Some, None}
 use Rattle.lethe_run.specs.declared.reply.Line.{Line}
 use Rattle.lethe_run.specs.declared.reply.Line.TheVariants as line
 use Rattle.lethe_run.specs.declared.reply.Reply.TheVariants.{Done, Ticked, Got, Scanned, Counted, Pinned, PinGot, PinScanned, Unpinned, Fault, Stopped, Exhausted, Backwards, Barred, ReadFault, Damaged}
@@ -48,3 +48,7 @@ number_in (line.Answer caller (Stopped at)) = None
 number_in (line.Answer caller (Exhausted last)) = None
 number_in (line.Answer caller ReadFault) = None
 number_in (line.Answer caller (Damaged page)) = None
+
+-- the numbers of the pins that lines say were made, as they follow one another
+abbrev pub numbers_in : List (List Line) → List ℕ
+numbers_in lines = filter_map number_in (all_of lines)
