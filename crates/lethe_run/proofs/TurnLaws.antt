@@ -22,7 +22,7 @@ use Rattle.lethe_run.specs.PinLaws.{IsAt, MayBeHeld, MayComeBefore, MustComeBefo
 use Rattle.lethe_run.specs.Pins.{InPins, Pins, no_pins, with_pin, without_pin}
 use Rattle.lethe_run.specs.Refusals.{all_of}
 use Rattle.lethe_run.specs.Slots.{AreInSlots, InSlots, Pin, Slots, no_slots, pin_in}
-use Rattle.lethe_run.specs.Transcript.{AreTurned, callers, is_of, places_behind, printed}
+use Rattle.lethe_run.specs.Transcript.{AreTurned, is_of, places_behind, printed}
 use Rattle.lethe_run.proofs.Callers.{AreOf, by_another, by_itself, keeps_all}
 
 -- Elements of lists

@@ -6,7 +6,7 @@ use Rattle.lethe_run.specs.declared.reply.Reply.TheVariants.{Done, Ticked, Got, 
 use Rattle.lethe_run.specs.Anywhere.{caller_in}
 use Rattle.lethe_run.specs.Refusals.{all_of}
 
--- where a line is printed: behind these phases, and in its own behind the lines `front`
+-- Where a line is printed: behind the phases `before`, and in its own behind the lines `front`.
 pub record IsAt (lines : List (List Line)) (told : Line) : Type 0 where
   pub before : List (List Line)
   pub front : List Line
@@ -19,7 +19,7 @@ abbrev pub MayComeBefore : {lines : List (List Line)} {told : Line} → IsAt lin
 MayComeBefore {told = told} at other =
     Contains (all_of at.before) other ⊎ (Contains (at.front ++ told ∷ at.behind) other × (caller_in other ≡ caller_in told → Contains at.front other))
 
--- It was: it stands in an earlier phase, or is an earlier line of the same caller.
+-- It surely was: it stands in an earlier phase, or is an earlier line of the same caller.
 abbrev pub MustComeBefore : {lines : List (List Line)} {told : Line} → IsAt lines told → Line → Type 0
 MustComeBefore {told = told} at other = Contains (all_of at.before) other ⊎ ((caller_in other ≡ caller_in told) × Contains at.front other)
 
