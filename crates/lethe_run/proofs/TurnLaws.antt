@@ -1,10 +1,11 @@
 -- What the one order of a phase's lines comes to: with one caller, and for the pins.
 use Rattle.std.proofs.Common.{◌≡◌, ◌≢◌, ◌⊎◌, ◌≤◌, ◌<◌, inl, inr, ℕ, zero, suc, ◌+◌, Bool, true, false, cond, List, [], ◌∷◌, ◌++◌, length, replicate, All, Option, Some, None, refl, sym, ap, ◌∙◌, subst, arith, append_assoc, append-nil}
-use Rattle.std.specs.Prelude.{◌==◌, not, nat_lt, filter, slice_index_or, slice_set, Contains}
-use Rattle.std.specs.List.{flat_map}
-use Rattle.std.proofs.lemmas.Bool.{cases_lt, eq-eqb}
+use Rattle.std.specs.Prelude.{◌==◌, not, nat_lt, filter, filter_map, slice_index_or, slice_set, Contains, IsPermutation}
+use Rattle.std.specs.List.{cons_option, flat_map}
+use Rattle.std.proofs.lemmas.Bool.{cases_lt, eq-eqb, eqb-true}
 use Rattle.std.proofs.lemmas.Grind.{flat_map-append}
-use Rattle.std.proofs.lemmas.List.Elements.{All-cons, All-contains, All-contains_itself, All-filter, All-head, All-nil, All-tail, All-weaker, Contains-append_cases, Contains-append_left, Contains-append_right, filter-append, filter_passes}
+use Rattle.std.proofs.lemmas.List.Elements.{All-cons, All-contains, All-contains_itself, All-filter, All-head, All-nil, All-tail, All-weaker, Contains-append_cases, Contains-append_left, Contains-append_right, filter-append, filter_map-append, filter_passes}
+use Rattle.std.proofs.lemmas.List.Sorted.{IsPermutation-cons, IsPermutation-middle, IsPermutation-refl, IsPermutation-sym, IsPermutation-trans, length_permutation}
 use Rattle.lethe_base.specs.declared.config.Fields.{Fields}
 use Rattle.lethe_core.specs.View.{Limited}
 use Rattle.lethe_pins.specs.Held.{placed_by}
@@ -17,11 +18,11 @@ use Rattle.lethe_run.specs.declared.reply.Reply.{Reply}
 use Rattle.lethe_run.specs.declared.reply.Reply.TheVariants.{Done, Ticked, Got, Scanned, Counted, Pinned, PinGot, PinScanned, Unpinned, Fault, Stopped, Exhausted, Backwards, Barred, ReadFault, Damaged}
 use Rattle.lethe_run.specs.Anywhere.{AreTold, AreToldThrough, IsPlausible, Standing, caller_in}
 use Rattle.lethe_run.specs.Callers.{IsCaller}
-use Rattle.lethe_run.specs.PinLaws.{IsAt, MayBeHeld, MayComeBefore, MustComeBefore}
+use Rattle.lethe_run.specs.PinLaws.{IsAt, MayBeHeld, MayComeBefore, MustComeBefore, number_in, numbers_in}
 use Rattle.lethe_run.specs.Pins.{InPins, Pins, no_pins, with_pin, without_pin}
 use Rattle.lethe_run.specs.Refusals.{all_of}
 use Rattle.lethe_run.specs.Slots.{AreInSlots, InSlots, Pin, Slots, no_slots, pin_in}
-use Rattle.lethe_run.specs.Transcript.{AreTurned, callers, is_of, places_behind, printed}
+use Rattle.lethe_run.specs.Transcript.{AreTurned, is_of, places_behind, printed}
 use Rattle.lethe_run.proofs.Callers.{AreOf, by_another, by_itself, keeps_all}
 
 -- Elements of lists
@@ -124,8 +125,39 @@ module _ {X : Type 0} (key : X → ℕ) (p : ℕ → X → Bool) (passes : (x : 
       itself : (l : List X) → All (λ x. key x ≡ k) l → filter (p k) l ≡ l
       itself l own = keeps_all (p k) l (All-weaker (λ x. key x ≡ k) (λ x. p k x ≡ true) (λ x is. ap (λ k. p k x) (sym is) ∙ passes x) l own)
 
+-- what is read off both has the same elements
+module _ {X Y : Type 0} (key : X → ℕ) (p : ℕ → X → Bool) (passes : (x : X) → p (key x) x ≡ true) (only : (k : ℕ) (x : X) → p k x ≡ true → key x ≡ k) (h : X → Option Y) where
+  -- without the first of a key
+  less : (x : X) (ys first rest : List X) (k : ℕ) → filter (p (key x)) first ≡ [] → filter (p k) (x ∷ ys) ≡ filter (p k) (first ++ x ∷ rest) → filter (p k) ys ≡ filter (p k) (first ++ rest)
+  less x ys first rest k none same = by (p k x) refl (same ∙ filter-append (p k) first (x ∷ rest)) ∙ sym (filter-append (p k) first rest)
+    where
+      by : (b : Bool) → p k x ≡ b → cond b (x ∷ filter (p k) ys) (filter (p k) ys) ≡ filter (p k) first ++ cond b (x ∷ filter (p k) rest) (filter (p k) rest) → filter (p k) ys ≡ filter (p k) first ++ filter (p k) rest
+      by true is same =
+          let no : filter (p k) first ≡ [] = subst (λ k. filter (p k) first ≡ []) (only k x is) none in
+          let whole : x ∷ filter (p k) ys ≡ x ∷ filter (p k) rest = same ∙ ap (λ l. l ++ x ∷ filter (p k) rest) no in
+          let tail : filter (p k) ys ≡ filter (p k) rest = cc in
+          tail ∙ sym (ap (λ l. l ++ filter (p k) rest) no)
+      by false is same = same
+
+  permuted : (o : Option Y) (ys first rest : List Y) → IsPermutation ys (first ++ rest) → IsPermutation (cons_option o ys) (first ++ cons_option o rest)
+  permuted None ys first rest same = same
+  permuted (Some y) ys first rest same =
+      IsPermutation-trans (y ∷ ys) (y ∷ (first ++ rest)) (first ++ y ∷ rest) (IsPermutation-cons y ys (first ++ rest) same) (IsPermutation-sym (first ++ y ∷ rest) (y ∷ (first ++ rest)) (IsPermutation-middle first y rest))
+
+  read_off : (ys xs : List X) → ((k : ℕ) → filter (p k) ys ≡ filter (p k) xs) → IsPermutation (filter_map h ys) (filter_map h xs)
+  read_off [] [] same = IsPermutation-refl []
+  read_off [] (x ∷ xs) same = absurd (has_none x (same_has key p passes [] (x ∷ xs) (λ k. sym (same k)) x (contains_here x xs)))
+  read_off (y ∷ ys) xs same =
+      let cut = cut_so (p (key y)) xs [] y (filter (p (key y)) ys) (sym (same (key y)) ∙ ap (λ b. cond b (y ∷ filter (p (key y)) ys) (filter (p (key y)) ys)) (passes y)) in
+      let later = read_off ys (cut.first ++ cut.rest) (λ k. less y ys cut.first cut.rest k cut.fronts (same k ∙ ap (filter (p k)) cut.are)) in
+      subst (IsPermutation (cons_option (h y) (filter_map h ys))) (sym (ap (filter_map h) cut.are ∙ filter_map-append h cut.first (y ∷ cut.rest)))
+      (permuted (h y) (filter_map h ys) (filter_map h cut.first) (filter_map h cut.rest) (subst (IsPermutation (filter_map h ys)) (filter_map-append h cut.first cut.rest) later))
+
 own_line : (l : Line) → is_of (caller_in l) l ≡ true
 own_line (line.Answer caller reply) = eq-eqb caller caller refl
+
+only_line : (caller : ℕ) (l : Line) → is_of caller l ≡ true → caller_in l ≡ caller
+only_line caller (line.Answer other reply) is = eqb-true other caller is
 
 turned_has : (lines turned : List Line) → AreTurned lines turned → (l : Line) → Contains turned l → Contains lines l
 turned_has lines turned are = same_has caller_in is_of own_line lines turned are
@@ -230,9 +262,9 @@ held_are_made Q s (line.Answer caller reply ∷ lines) t along all made =
           let it : Q (record { number = s.made + 1; limit = making.1 }) = made caller making.0 (s.made + 1) making.1 (0, omega arith, ap (line.Answer caller) making.2) in
           subst (λ (p : Pins). All Q p.held) (sym making.3) (all_placed Q (λ (pin : Limited). pin.limit) (record { number = s.made + 1; limit = making.1 }) s.held it all)
       | inr other ↦ elim other [
-          | inl letting ↦ subst (λ (p : Pins). All Q p.held) (sym letting.1) (All-filter (λ (pin : Limited). not (pin.number == letting.0)) Q s.held all)
-          | inr same ↦ subst (λ (p : Pins). All Q p.held) (sym same) all
-        ]
+        | inl letting ↦ subst (λ (p : Pins). All Q p.held) (sym letting.1) (All-filter (λ (pin : Limited). not (pin.number == letting.0)) Q s.held all)
+        | inr same ↦ subst (λ (p : Pins). All Q p.held) (sym same) all
+      ]
     ]
 
 -- The numbers that were given
@@ -241,9 +273,9 @@ made_next : (reply : Reply) (s t : Pins) → InPins reply s t → s.made ≤ t.m
 made_next reply s t is = elim (one_of_three reply s t is) [
   | inl making ↦ let more = ap (λ (p : Pins). p.made) making.3 in omega (arith, more)
   | inr other ↦ elim other [
-      | inl letting ↦ let same = ap (λ (p : Pins). p.made) letting.1 in omega (arith, same)
-      | inr same ↦ let same = ap (λ (p : Pins). p.made) same in omega (arith, same)
-    ]
+    | inl letting ↦ let same = ap (λ (p : Pins). p.made) letting.1 in omega (arith, same)
+    | inr same ↦ let same = ap (λ (p : Pins). p.made) same in omega (arith, same)
+  ]
 ]
 
 made_along : (s : Pins) (lines : List Line) (t : Pins) → PinsAlong s lines t → s.made ≤ t.made
@@ -281,11 +313,11 @@ gone_next number reply s t is gone = elim (one_of_three reply s t is) [
         none = all_placed (λ (pin : Limited). pin.number ≢ number) (λ (pin : Limited). pin.limit) (record { number = s.made + 1; limit = making.1 }) s.held (λ same. omega (arith, same, given)) gone.none;
       })
   | inr other ↦ elim other [
-      | inl letting ↦
-          subst (IsGone number) (sym letting.1)
-          (record { given = gone.given; none = All-filter (λ (pin : Limited). not (pin.number == letting.0)) (λ (pin : Limited). pin.number ≢ number) s.held gone.none })
-      | inr same ↦ subst (IsGone number) (sym same) gone
-    ]
+    | inl letting ↦
+        subst (IsGone number) (sym letting.1)
+        (record { given = gone.given; none = All-filter (λ (pin : Limited). not (pin.number == letting.0)) (λ (pin : Limited). pin.number ≢ number) s.held gone.none })
+    | inr same ↦ subst (IsGone number) (sym same) gone
+  ]
 ]
 
 gone_along : (number : ℕ) (s : Pins) (lines : List Line) (t : Pins) → PinsAlong s lines t → IsGone number s → IsGone number t
@@ -438,8 +470,8 @@ module _ (before front behind earlier first rest : List Line) (middle end : Pins
   at_bar : PinsParted middle first (bar ∷ rest) end
   at_bar = part_along middle first (bar ∷ rest) end now_pins
 
-  along : PinsAlong no_pins (earlier ++ first) at_bar.middle
-  along = join_along no_pins earlier middle first at_bar.middle earlier_pins at_bar.first
+  so_far : PinsAlong no_pins (earlier ++ first) at_bar.middle
+  so_far = join_along no_pins earlier middle first at_bar.middle earlier_pins at_bar.first
 
   is_held : Contains at_bar.middle.held (record { number = number; limit = limit })
   is_held = at_bar.then.1.0
@@ -449,7 +481,7 @@ module _ (before front behind earlier first rest : List Line) (middle end : Pins
 
   was_made : WasMade (record { number = number; limit = limit })
   was_made = All-contains WasMade at_bar.middle.held (record { number = number; limit = limit })
-      (held_are_made WasMade no_pins (earlier ++ first) at_bar.middle along (All-nil WasMade) (λ owner point number limit has. (owner, point, has))) is_held
+      (held_are_made WasMade no_pins (earlier ++ first) at_bar.middle so_far (All-nil WasMade) (λ owner point number limit has. (owner, point, has))) is_held
 
   never_gone : IsGone number at_bar.middle → ⊥
   never_gone gone = All-contains (λ (pin : Limited). pin.number ≢ number) at_bar.middle.held (record { number = number; limit = limit }) gone.none is_held refl
@@ -464,7 +496,7 @@ module _ (before front behind earlier first rest : List Line) (middle end : Pins
       cut = cut_at (earlier ++ first) unpin has
 
       parts : PinsParted no_pins cut.front (unpin ∷ cut.behind) at_bar.middle
-      parts = part_along no_pins cut.front (unpin ∷ cut.behind) at_bar.middle (subst (λ l. PinsAlong no_pins l at_bar.middle) cut.are along)
+      parts = part_along no_pins cut.front (unpin ∷ cut.behind) at_bar.middle (subst (λ l. PinsAlong no_pins l at_bar.middle) cut.are so_far)
 
       whole : earlier ++ (first ++ bar ∷ rest) ≡ cut.front ++ unpin ∷ (cut.behind ++ bar ∷ rest)
       whole = sym (append_assoc earlier first (bar ∷ rest)) ∙ ap (λ l. l ++ bar ∷ rest) cut.are ∙ append_assoc cut.front (unpin ∷ cut.behind) (bar ∷ rest)
@@ -498,20 +530,20 @@ module _ (Ports : Type 0) (config : Fields) (from upto : ℕ) (phases : List (Li
   abbrev barred : Line
   barred = line.Answer caller (Barred number limit)
 
-  abbrev phase : List Line
-  phase = at.front ++ barred ∷ at.behind
+  abbrev own_phase : List Line
+  own_phase = at.front ++ barred ∷ at.behind
 
-  up : IsTurnedUpTo no_pins at.before phase
-  up = subst (λ pins. IsTurnedUpTo pins at.before phase) plausible.unpinned
-      (turned_upto Ports from upto phases plausible.opened at.before phase at.after turned plausible.end
+  up : IsTurnedUpTo no_pins at.before own_phase
+  up = subst (λ pins. IsTurnedUpTo pins at.before own_phase) plausible.unpinned
+      (turned_upto Ports from upto phases plausible.opened at.before own_phase at.after turned plausible.end
       (subst (λ lines. AreToldThrough Ports from upto phases plausible.opened lines turned plausible.end) at.are plausible.told))
 
   halves : IsCutSo (is_of caller) up.now (filter (is_of caller) at.front) barred (filter (is_of caller) at.behind)
   halves = cut_so (is_of caller) up.now (filter (is_of caller) at.front) barred (filter (is_of caller) at.behind)
       (up.now_are caller ∙ filter-append (is_of caller) at.front (barred ∷ at.behind) ∙ ap (λ l. filter (is_of caller) at.front ++ l) (own_first caller (Barred number limit) at.behind))
 
-  turned_so : AreTurned phase (halves.first ++ barred ∷ halves.rest)
-  turned_so = subst (AreTurned phase) halves.are up.now_are
+  turned_so : AreTurned own_phase (halves.first ++ barred ∷ halves.rest)
+  turned_so = subst (AreTurned own_phase) halves.are up.now_are
 
   pins_so : PinsAlong up.middle (halves.first ++ barred ∷ halves.rest) up.end
   pins_so = subst (λ l. PinsAlong up.middle l up.end) halves.are up.now_pins
@@ -525,8 +557,9 @@ module _ (Ports : Type 0) (config : Fields) (from upto : ℕ) (phases : List (Li
       elim (Contains-append_cases up.earlier halves.first it pin.2) [
         | inl earlier ↦ inl (turned_has (all_of at.before) up.earlier up.earlier_are it earlier)
         | inr here ↦ inr (
-            turned_has phase (halves.first ++ barred ∷ halves.rest) turned_so it (Contains-append_left halves.first (barred ∷ halves.rest) it here),
-            λ same. contains_filtered (is_of caller) at.front it (subst (λ l. Contains l it) halves.fronts (filter_contains (is_of caller) halves.first it (eq-eqb pin.0 caller same) here)))
+          turned_has own_phase (halves.first ++ barred ∷ halves.rest) turned_so it (Contains-append_left halves.first (barred ∷ halves.rest) it here),
+          λ same. contains_filtered (is_of caller) at.front it (subst (λ l. Contains l it) halves.fronts (filter_contains (is_of caller) halves.first it (eq-eqb pin.0 caller same) here)),
+        )
       ]
 
   not_let_go : (other now : ℕ) → Contains (up.earlier ++ halves.first) (line.Answer other (Unpinned now number)) → ⊥
@@ -534,10 +567,10 @@ module _ (Ports : Type 0) (config : Fields) (from upto : ℕ) (phases : List (Li
       let orders = orders_by other (flat_map (λ (orders : List Order). orders) phases) in
       let more = filter (is_of other) (all_of at.after) in
       let own = plausible.slots other in
-      let are : filter (is_of other) (all_of lines) ≡ filter (is_of other) (all_of at.before ++ phase) ++ more =
-      ap (λ l. filter (is_of other) (all_of l)) at.are ∙ ap (filter (is_of other)) (all_upto at.before phase at.after) ∙ filter-append (is_of other) (all_of at.before ++ phase) (all_of at.after) in
+      let are : filter (is_of other) (all_of lines) ≡ filter (is_of other) (all_of at.before ++ own_phase) ++ more =
+      ap (λ l. filter (is_of other) (all_of l)) at.are ∙ ap (filter (is_of other)) (all_upto at.before own_phase at.after) ∙ filter-append (is_of other) (all_of at.before ++ own_phase) (all_of at.after) in
       never_let_go (all_of at.before) at.front at.behind up.earlier halves.first halves.rest up.middle up.end caller number limit up.earlier_are turned_so up.earlier_pins pins_so
-          other now orders more own.0 (subst (λ l. AreInSlots orders no_slots l own.0) are own.1) has
+      other now orders more own.0 (subst (λ l. AreInSlots orders no_slots l own.0) are own.1) has
 
   kept : (other now : ℕ) → MustComeBefore at (line.Answer other (Unpinned now number)) → ⊥
   kept other now comes =
@@ -550,3 +583,71 @@ module _ (Ports : Type 0) (config : Fields) (from upto : ℕ) (phases : List (Li
 
   pub bar_may_be_held : MayBeHeld at number limit
   bar_may_be_held = record { owner = pin.0; point = pin.1; made = may_come_before; kept = kept }
+
+-- The numbers of the pins that are made
+
+abbrev AreFrom : ℕ → List Line → Type 0
+AreFrom made lines = filter_map number_in lines ≡ places_behind made (length (filter_map number_in lines))
+
+module _ (caller : ℕ) (lines : List Line) (s t : Pins) (rest : AreFrom t.made lines) where
+  as_before : t ≡ s → AreFrom s.made lines
+  as_before same = subst (λ (p : Pins). AreFrom p.made lines) same rest
+
+  numbered_next : (reply : Reply) → InPins reply s t → AreFrom s.made (line.Answer caller reply ∷ lines)
+  numbered_next (Pinned point number limit) is =
+      let first : number ≡ suc s.made = is.0 ∙ (let same : s.made + 1 ≡ suc s.made = omega arith in same) in
+      let made : t.made ≡ suc s.made = ap (λ (p : Pins). p.made) is.1 ∙ (let same : s.made + 1 ≡ suc s.made = omega arith in same) in
+      ap (λ n. n ∷ filter_map number_in lines) first ∙ ap (λ l. suc s.made ∷ l) (subst (λ n. AreFrom n lines) made rest)
+  numbered_next (Unpinned point number) is = subst (λ n. AreFrom n lines) (ap (λ (p : Pins). p.made) is) rest
+  numbered_next (Barred number limit) is = as_before is.2
+  numbered_next (Ticked ticked) is = as_before is.1
+  numbered_next (Counted point stat) is = as_before is.1
+  numbered_next (PinGot number point found) is = as_before is
+  numbered_next (PinScanned number point pairs) is = as_before is
+  numbered_next (Done place) is = as_before is
+  numbered_next (Got point found) is = as_before is
+  numbered_next (Scanned point pairs) is = as_before is
+  numbered_next (Fault place before after) is = as_before is
+  numbered_next (Stopped at) is = as_before is
+  numbered_next (Exhausted last) is = as_before is
+  numbered_next (Backwards point clock) is = as_before is
+  numbered_next ReadFault is = as_before is
+  numbered_next (Damaged page) is = as_before is
+
+numbered_along : (s : Pins) (lines : List Line) (t : Pins) → PinsAlong s lines t → AreFrom s.made lines
+numbered_along s [] t along = refl
+numbered_along s (line.Answer caller reply ∷ lines) t along = numbered_next caller lines s along.0 (numbered_along along.0 lines t along.2) reply along.1
+
+-- all phases
+
+pub record AreAllTurned (s : Pins) (lines turned : List (List Line)) (t : Pins) : Type 0 where
+  pub order : AreTurned (all_of lines) (all_of turned)
+  pub pins : PinsAlong s (all_of turned) t
+
+all_turned : (Ports : Type 0) (from upto : ℕ) (phases : List (List Order)) (s : Standing) (lines turned : List (List Line)) (t : Standing) → AreToldThrough Ports from upto phases s lines turned t → AreAllTurned s.pins lines turned t.pins
+all_turned Ports from upto [] s [] [] t told = record { order = λ caller. refl; pins = ap (λ (s : Standing). s.pins) told }
+all_turned Ports from upto [] s [] (now ∷ turned) t told = absurd told
+all_turned Ports from upto [] s (phase ∷ lines) turned t told = absurd told
+all_turned Ports from upto (orders ∷ phases) s [] turned t told = absurd told
+all_turned Ports from upto (orders ∷ phases) s (phase ∷ lines) [] t told = absurd told
+all_turned Ports from upto (orders ∷ phases) s (phase ∷ lines) (now ∷ turned) t told =
+    let rest = all_turned Ports from upto phases told.0 lines turned t told.2 in
+    record {
+      order = turned_append phase (all_of lines) now (all_of turned) told.1.order rest.order;
+      pins = join_along s.pins now told.0.pins (all_of turned) t.pins (pins_told Ports from upto told.1.asked s now told.0 told.1.told) rest.pins;
+    }
+
+module _ (Ports : Type 0) (config : Fields) (from upto : ℕ) (phases : List (List Order)) (lines turned : List (List Line)) (plausible : IsPlausible Ports config from upto phases lines turned) where
+  all : AreAllTurned no_pins lines turned plausible.end.pins
+  all = subst (λ pins. AreAllTurned pins lines turned plausible.end.pins) plausible.unpinned (all_turned Ports from upto phases plausible.opened lines turned plausible.end plausible.told)
+
+  pub turned_numbers : numbers_in turned ≡ places_behind 0 (length (numbers_in turned))
+  turned_numbers = numbered_along no_pins (all_of turned) plausible.end.pins all.pins
+
+  same_numbers : IsPermutation (numbers_in turned) (numbers_in lines)
+  same_numbers = read_off caller_in is_of own_line only_line number_in (all_of turned) (all_of lines) all.order
+
+  pub printed_numbers : IsPermutation (places_behind 0 (length (numbers_in lines))) (numbers_in lines)
+  printed_numbers =
+      subst (λ n. IsPermutation (places_behind 0 n) (numbers_in lines)) (sym (length_permutation (numbers_in turned) (numbers_in lines) same_numbers))
+      (subst (λ l. IsPermutation l (numbers_in lines)) turned_numbers same_numbers)

@@ -1,12 +1,12 @@
 -- What the lines of a run say of a pin that bars a tick, and of the pins' numbers.
-use Rattle.std.specs.Prelude.{◌≡◌, ◌⊎◌, ℕ, List, ◌∷◌, ◌++◌, Contains, Option, Some, None}
+use Rattle.std.specs.Prelude.{◌≡◌, ◌⊎◌, ℕ, List, ◌∷◌, ◌++◌, filter_map, Contains, Option, Some, None}
 use Rattle.lethe_run.specs.declared.reply.Line.{Line}
 use Rattle.lethe_run.specs.declared.reply.Line.TheVariants as line
 use Rattle.lethe_run.specs.declared.reply.Reply.TheVariants.{Done, Ticked, Got, Scanned, Counted, Pinned, PinGot, PinScanned, Unpinned, Fault, Stopped, Exhausted, Backwards, Barred, ReadFault, Damaged}
 use Rattle.lethe_run.specs.Anywhere.{caller_in}
 use Rattle.lethe_run.specs.Refusals.{all_of}
 
--- where a line is printed: behind these phases, and in its own behind the lines `front`
+-- Where a line is printed: behind the phases `before`, and in its own behind the lines `front`.
 pub record IsAt (lines : List (List Line)) (told : Line) : Type 0 where
   pub before : List (List Line)
   pub front : List Line
@@ -19,7 +19,7 @@ abbrev pub MayComeBefore : {lines : List (List Line)} {told : Line} → IsAt lin
 MayComeBefore {told = told} at other =
     Contains (all_of at.before) other ⊎ (Contains (at.front ++ told ∷ at.behind) other × (caller_in other ≡ caller_in told → Contains at.front other))
 
--- It was: it stands in an earlier phase, or is an earlier line of the same caller.
+-- It surely was: it stands in an earlier phase, or is an earlier line of the same caller.
 abbrev pub MustComeBefore : {lines : List (List Line)} {told : Line} → IsAt lines told → Line → Type 0
 MustComeBefore {told = told} at other = Contains (all_of at.before) other ⊎ ((caller_in other ≡ caller_in told) × Contains at.front other)
 
@@ -48,3 +48,7 @@ number_in (line.Answer caller (Stopped at)) = None
 number_in (line.Answer caller (Exhausted last)) = None
 number_in (line.Answer caller ReadFault) = None
 number_in (line.Answer caller (Damaged page)) = None
+
+-- the numbers of the pins that lines say were made, as they follow one another
+abbrev pub numbers_in : List (List Line) → List ℕ
+numbers_in lines = filter_map number_in (all_of lines)

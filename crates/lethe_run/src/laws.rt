@@ -1,5 +1,5 @@
 //! Laws of what a run's lines say, in words that don't say how they come about. The functions do nothing: their contracts are the laws.
-ghost use Rattle.std.specs.Prelude.{◌≡◌, ◌↔◌, ◌≤◌, ◌<◌, ℕ, List, All};
+ghost use Rattle.std.specs.Prelude.{◌≡◌, ◌↔◌, ℕ, List, length, All, IsPermutation};
 ghost use Rattle.lethe_base.specs.Keys.{Bytes};
 ghost use Rattle.lethe_base.specs.History.{Pair, State};
 ghost use Rattle.lethe_base.specs.Read.{Scan, Listed, answer};
@@ -11,9 +11,9 @@ ghost use Rattle.lethe_run.specs.declared.reply.Line.TheVariants as line;
 ghost use Rattle.lethe_run.specs.declared.reply.Reply.TheVariants.{Barred};
 ghost use Rattle.lethe_run.specs.Anywhere.{IsPlausible, caller_in};
 ghost use Rattle.lethe_run.specs.Callers.{IsCaller};
-ghost use Rattle.lethe_run.specs.PinLaws.{IsAt, MayBeHeld};
+ghost use Rattle.lethe_run.specs.PinLaws.{IsAt, MayBeHeld, numbers_in};
 ghost use Rattle.lethe_run.specs.Scans.{IsScan};
-ghost use Rattle.lethe_run.specs.Transcript.{AreTurned, printed};
+ghost use Rattle.lethe_run.specs.Transcript.{AreTurned, places_behind, printed};
 
 use lethe_disk::Disk;
 
@@ -37,4 +37,12 @@ pub fn one_callers_order()
 pub fn bars_are_of_held_pins<D: Disk>()
     ensures { (config : Fields) (from upto : ℕ) (phases : List (List Order)) (lines turned : List (List Line)) → IsPlausible D.ports_fail config from upto phases lines turned
         → (caller number limit : ℕ) (at : IsAt lines (line.Answer caller (Barred number limit))) → MayBeHeld at number limit }
+{}
+
+/// On any disk, along the one order of a run's lines the pins have the numbers 1, 2 and so on, and so the printed lines have each of these numbers once.
+pub fn pins_are_numbered<D: Disk>()
+    ensures turned { (config : Fields) (from upto : ℕ) (phases : List (List Order)) (lines turned : List (List Line)) → IsPlausible D.ports_fail config from upto phases lines turned
+        → numbers_in turned ≡ places_behind 0 (length (numbers_in turned)) }
+    ensures printed { (config : Fields) (from upto : ℕ) (phases : List (List Order)) (lines turned : List (List Line)) → IsPlausible D.ports_fail config from upto phases lines turned
+        → IsPermutation (places_behind 0 (length (numbers_in lines))) (numbers_in lines) }
 {}

@@ -16,7 +16,7 @@ mod status;
 mod top;
 mod words;
 
-pub use laws::{bars_are_of_held_pins, one_callers_order, one_scan};
+pub use laws::{bars_are_of_held_pins, one_callers_order, one_scan, pins_are_numbered};
 pub use reason::Reason;
 pub use reply::{Line, Reply};
 pub use top::{Ended, Told, run, run_told};
