@@ -59,8 +59,9 @@ done <<'END'
 1 erase 1 2x|3|line 1 bad number\n|line 1: 2x is no number: erase takes NUMBER NUMBER, and $digits
 1 tick 2026-12-01|3|line 1 bad number\n|line 1: 2026-12-01 is no time: tick takes T, decimal digits without a leading zero, at most 2^62
 1 tick 4611686018427387905|3|line 1 bad number\n|line 1: 4611686018427387905 is no time: tick takes T, decimal digits without a leading zero, at most 2^62
-put c 5 x|3|line 1 bad caller\n|line 1: a line begins with the caller 1, and not with put
-2 put c 5 x|3|line 1 bad caller\n|line 1: a line begins with the caller 1, and not with 2
+put c 5 x|3|line 1 bad caller\n|line 1: a line begins with a caller, 1 to 8, or is phase, and not with put
+9 put c 5 x|3|line 1 bad caller\n|line 1: a line begins with a caller, 1 to 8, or is phase, and not with 9
+phase 2|3|line 1 bad count\n|line 1: phase stands on a line of its own
 1|3|line 1 bad command\n|line 1: no command stands behind the caller; ./lethe --help lists them
 1 fetch a|3|line 1 bad command\n|line 1: fetch is no command; ./lethe --help lists them
 1 PUT c 5 x|3|line 1 bad command\n|line 1: PUT is no command; ./lethe --help lists them

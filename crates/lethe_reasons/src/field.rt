@@ -22,7 +22,7 @@ pub(crate) fn general(why: Why) -> &'static str {
         Why::Size => "the script is longer than 16777216 bytes; split it",
         Why::Byte =>
             "a byte is neither a space nor a visible ASCII character; write the field as =HEX, for example by xxd -p",
-        Why::Caller => "a line begins with the caller 1",
+        Why::Caller => "a line begins with a caller, 1 to 8, or is phase",
         Why::Command => "no command of this name; ./lethe --help lists them",
         Why::Count => "too few fields or too many; ./lethe --help lists what a command takes",
         Why::Number =>

@@ -27,10 +27,18 @@ pub fn bad_line(alloc: Global, bad: BadLine, text: &[u8]) -> Result<Message, NoM
     match fields.as_slice() {
         [] => Message::of(alloc, head)?.and(general(bad.why)),
         [first, ..] if bad.why == Why::Caller => Message::of(alloc, head)?
-            .and("a line begins with the caller 1, and not with ")?
+            .and("a line begins with a caller, 1 to 8, or is phase, and not with ")?
             .show(first),
+        [first, ..] if bad.why == Why::Count && is_phase(first) => {
+            Message::of(alloc, head)?.and("phase stands on a line of its own")
+        }
         [_, rest @ ..] => bad_command(alloc, head, bad.why, rest, is_whole),
     }
+}
+
+/// The word that ends a phase.
+fn is_phase(field: &[u8]) -> bool {
+    field == b"phase".as_slice()
 }
 
 /// The first fields of a line. Of one that was cut the last isn't whole.

@@ -32,15 +32,17 @@ abbrev pub GivesScript : {X Y : Type 0} → (X → Y) → Result X ScriptRefused
 GivesScript view (Ok x) read = read ≡ Ok (view x)
 GivesScript view (Err e) read = FailsScript e read
 
--- the phases so far, the open one apart, with what a further line says, and the slots that are held then
+-- the phases that have ended, and the orders of the one that hasn't
 abbrev pub Phases : Type 0
 Phases = List (List Order) × List Order
 
+-- with what a further line says
 abbrev pub phases_behind : Option Item → List (List Order) → List Order → Phases
 phases_behind None ended open_orders = (ended, open_orders)
 phases_behind (Some item.PhaseEnd) ended open_orders = (ended ++ open_orders ∷ [], [])
 phases_behind (Some (item.Order order)) ended open_orders = (ended, open_orders ++ order ∷ [])
 
+-- the same of a line that is read, and the slots that are held then
 abbrev pub with_item : List (List Order) → List Order → HeldByAll → Result (Option Item) BadLine → Result (Phases × HeldByAll) BadLine
 with_item ended open_orders held read = do
   found ← read

@@ -11,16 +11,16 @@ pub enum Why {
     Size,
     /// A byte is neither a space nor from 33 to 126.
     Byte,
-    /// The first field is no caller.
+    /// The first field is neither `phase` nor a caller.
     Caller,
     /// The second field is missing, or no command.
     Command,
-    /// There are too many fields or too few for the command.
+    /// There are too many fields or too few for the command, or one behind `phase`.
     Count,
     /// A field should be a number: decimal digits without a leading zero, below 2^64.
     Number,
     /// A field should be a slot: one digit. Or the slot is held where `pin` needs it free, or free where `pget`, `pscan` or
-    /// `unpin` needs it held: whether it is held is tested behind all else of the line.
+    /// `unpin` needs it held, by the caller's lines before: this is tested behind all else of the line.
     Slot,
     /// A field should be a key: from 1 to 255 bytes, or `=` and two lower-case hexadecimal digits for each.
     Key,

@@ -6,7 +6,7 @@ use lethe_script::{BadLine, Why};
 use std::alloc::Global;
 
 /// A line, why it is refused, and the reason.
-const ROWS: [(&[u8], Why, &[u8]); 24] = [
+const ROWS: [(&[u8], Why, &[u8]); 25] = [
     (
         b"1 put a 5 x",
         Why::Size,
@@ -25,7 +25,12 @@ const ROWS: [(&[u8], Why, &[u8]); 24] = [
     (
         b"put a 5 x",
         Why::Caller,
-        b"line 3: a line begins with the caller 1, and not with put",
+        b"line 3: a line begins with a caller, 1 to 8, or is phase, and not with put",
+    ),
+    (
+        b"phase 2",
+        Why::Count,
+        b"line 3: phase stands on a line of its own",
     ),
     (
         b"1",
