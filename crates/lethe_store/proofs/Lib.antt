@@ -1,0 +1,3 @@
+pub mod Sinces
+pub mod Seats
+pub mod Changing
