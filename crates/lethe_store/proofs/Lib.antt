@@ -1,3 +1,2 @@
-pub mod Sinces
 pub mod Seats
-pub mod Changing
+pub mod Behind

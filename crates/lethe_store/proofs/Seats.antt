@@ -67,6 +67,9 @@ module _ {E M V : Type 0} where
     (o, ap (λ n. n.0.opened) is, ap (λ n. n.0.start) is ∙ counts),
   )
 
+  pub first_of : (Tells : Type 0) (see : V → Desk) (handed : Desk) (count : ℕ) (m : Seated E M V) (o : V) → m ≡ (first_view o count, []) → IsSameStore Tells handed (see o) → IsFirst Tells see handed count m
+  first_of Tells see handed count m o is same = (o, is, same)
+
   -- half of a session's parts is some, where it has two
   pub ready_left : (start : ℕ → ℕ) (see : V → Desk) (m n : Seated E M V) → IsReady start see m → 1 < m.0.parts → n ≡ (left_of m.0, m.1) → IsReady start see n
   ready_left start see m n ready parts is = (
@@ -79,6 +82,10 @@ module _ {E M V : Type 0} where
     (ap (λ k. k.1) is, (subst (λ p. 0 < p) (sym (ap (λ k. k.0.parts) is)) (let z : 0 < m.0.parts / 2 = omega arith in z), ap (λ k. k.0.waits) is, ap (λ k. k.0.holds) is)),
     knows_after start see m.0 n.0 ready.1 (ap (λ k. k.0.opened) is) (ap (λ k. k.0.start) is),
   )
+
+  -- so a split leaves both ready
+  pub split_so : (v w u : View V E M) (m n : Seated E M V) → HasSeenMore v w → u ≡ passed w → m.0 ≡ left_of u → n.0 ≡ right_of u → HasSplit v m.0 n.0
+  split_so v w u m n more is left right = record { at = u; more = more_passed v w u more is; left = left; right = right }
 
   pub ready_joined : (start : ℕ → ℕ) (see : V → Desk) (m : Seated E M V) (w : View V E M) (n : Seated E M V) → IsReady start see m → IsFree n → Joined m.0 w n.0 → IsReady start see n
   ready_joined start see m w n ready free joined = (free, knows_after start see m.0 n.0 ready.1 joined.opened joined.start)

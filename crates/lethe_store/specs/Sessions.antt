@@ -1,5 +1,5 @@
 -- What a session knows before and behind its calls.
-use Rattle.std.specs.Prelude.{◌≡◌, ℕ, ◌+◌, List, ◌++◌, length, Option, Some}
+use Rattle.std.specs.Prelude.{◌≡◌, ℕ, ◌+◌, List, [], ◌++◌, length, Some}
 use Rattle.lethe_turn.specs.Lists.{IsBeginning, placed}
 use Rattle.lethe_turn.specs.Seats.{HasSeenMore, IsFree, KnowsTheWhole, Seated, first_view, left_of, right_of}
 use Rattle.lethe_turn.specs.declared.view.View.{View}

@@ -14,6 +14,14 @@ use Rattle.lethe_store.specs.declared.entry.Mark.{Mark}
 use Rattle.lethe_store.specs.Desks.{Desk}
 use Rattle.lethe_store.specs.Entries.{changes_of, clock_along, stopped_behind}
 
+-- all changes that the opened store counts lie before the first entry
+abbrev pub all_counted : ℕ → ℕ
+all_counted count = count
+
+-- nothing is asked of marks
+abbrev pub AnyMarks : List Mark → Type 0
+AnyMarks marks = Unit {0}
+
 -- Device calls were made: what a crash before them may leave is neither more nor less.
 pub record Continues (old new : Seen) : Type 0 where
   pub later : old.moment ≤ new.moment

@@ -3,7 +3,7 @@ ghost use Rattle.std.specs.Prelude.{◌≡◌, IfOk, IfErr};
 ghost use Rattle.lethe_core.specs.Running.{IsSound};
 ghost use Rattle.lethe_core.specs.View.{view_of};
 ghost use Rattle.lethe_store.specs.Desks.{IsSameStore, desk_of};
-ghost use Rattle.lethe_store.specs.Laws.{all_counted};
+ghost use Rattle.lethe_store.specs.Since.{all_counted};
 ghost use Rattle.lethe_store.specs.Sessions.{IsFirst, IsReady};
 
 use crate::entry::{Entry, Mark};
@@ -24,8 +24,8 @@ impl Log for Changes {
 
     type Mark = Mark;
 
-    ghost use Rattle.lethe_store.specs.Since.{Since};
-    ghost use Rattle.lethe_store.specs.Laws.{AnyMarks, all_counted, any_none, any_both, changes_open, changes_sound, changes_stay};
+    ghost use Rattle.lethe_store.specs.Since.{AnyMarks, Since, all_counted};
+    ghost use Rattle.lethe_store.specs.Laws.{any_none, any_both, since_opened, since_sound, since_same};
 
     ghost start = { all_counted };
 
@@ -37,11 +37,11 @@ impl Log for Changes {
 
     ghost fits_both = { any_both };
 
-    ghost opens = { changes_open };
+    ghost opens = { since_opened };
 
-    ghost sound = { changes_sound };
+    ghost sound = { since_sound };
 
-    ghost stays = { changes_stay };
+    ghost stays = { since_same };
 }
 
 impl<D: Disk> Store<D, Changes> {

@@ -8,7 +8,7 @@ ghost use Rattle.lethe_engine.specs.ChangeRows.{call_of};
 ghost use Rattle.lethe_turn.specs.Seats.{count_of};
 ghost use Rattle.lethe_store.specs.Desks.{desk_of};
 ghost use Rattle.lethe_store.specs.Entries.{entries_by};
-ghost use Rattle.lethe_store.specs.Laws.{all_counted};
+ghost use Rattle.lethe_store.specs.Since.{all_counted};
 ghost use Rattle.lethe_store.specs.Reasons.{AreLater, HasReasonOfChange, IsStoppedAt, counts_of};
 ghost use Rattle.lethe_store.specs.Sessions.{HasDone, IsReady};
 

@@ -4,7 +4,7 @@ ghost use Rattle.lethe_base.specs.Read.{Get, Scan, Found};
 ghost use Rattle.lethe_engine.specs.Reads.{listed};
 ghost use Rattle.lethe_turn.specs.Seats.{count_of};
 ghost use Rattle.lethe_store.specs.Desks.{desk_of};
-ghost use Rattle.lethe_store.specs.Laws.{all_counted};
+ghost use Rattle.lethe_store.specs.Since.{all_counted};
 ghost use Rattle.lethe_store.specs.Reads.{HasRead, HasReadClock, IsClockSeen};
 ghost use Rattle.lethe_store.specs.Reasons.{AreLater, HasReasonOfRead, counts_of};
 ghost use Rattle.lethe_store.specs.Sessions.{HasDone, IsReady};

@@ -1,5 +1,5 @@
 //! The store and its turns, whatever its log.
-ghost use Rattle.std.specs.Prelude.{◌≡◌, ◌+◌, ◌<◌, ◌^◌, ◌++◌, length, IfOk, IfErr};
+ghost use Rattle.std.specs.Prelude.{◌≡◌, ◌+◌, ◌<◌, ◌^◌, [], ◌++◌, length, IfOk, IfErr};
 ghost use Rattle.lethe_core.specs.Running.{IsSound};
 ghost use Rattle.lethe_core.specs.View.{view_of};
 ghost use Rattle.lethe_turn.specs.Seats.{Holds, HasSeenMore, IsFree, Joined, KnowsTheWhole, count_of, entered, passed, passed_noting};

@@ -1,7 +1,7 @@
 //! Sessions one after another, in one thread.
 ghost use Rattle.std.specs.Prelude.{◌≡◌};
 ghost use Rattle.lethe_store.specs.Desks.{desk_of};
-ghost use Rattle.lethe_store.specs.Laws.{all_counted};
+ghost use Rattle.lethe_store.specs.Since.{all_counted};
 ghost use Rattle.lethe_store.specs.Sessions.{IsReady};
 
 use crate::common::{Caller, Shared, key_of, opened, shared, value_of};

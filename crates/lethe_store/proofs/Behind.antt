@@ -25,13 +25,12 @@ use Rattle.lethe_store.specs.declared.entry.Entry.{Entry}
 use Rattle.lethe_store.specs.declared.entry.Mark.{Mark}
 use Rattle.lethe_store.specs.Desks.{Desk, failure_in}
 use Rattle.lethe_store.specs.Entries.{changes_of, did_by, entries_by, entries_of, stopped_behind}
-use Rattle.lethe_store.specs.Laws.{all_counted}
 use Rattle.lethe_store.specs.Reads.{HasRead, HasReadClock, IsClockSeen}
 use Rattle.lethe_store.specs.Reasons.{HasReasonOfChange, HasReasonOfRead, IsStoppedAt, PortCounts}
 use Rattle.lethe_store.specs.Sessions.{HasDone, IsLedTo, KnowsOpened}
-use Rattle.lethe_store.specs.Since.{Since}
+use Rattle.lethe_store.specs.Since.{Since, all_counted}
 use Rattle.lethe_store.proofs.Seats.{knows_after}
-use Rattle.lethe_store.proofs.Sinces.{IsFirstFailure, since_call, stands_along, stays_stopped}
+use Rattle.lethe_store.specs.Laws.{IsFirstFailure, since_call, stands_along, stays_stopped}
 
 -- a change in which the disk failed is the first one, and has the next place
 pub first_failure : (Tells PortsFail : Type 0) (old new : core.View) (before now : ℕ) (result : Result ℕ Refused) → IfErr result (engine.HasReasonOfChange Tells PortsFail old new before now)
@@ -69,6 +68,10 @@ module _ {V : Type 0} (Tells PortsFail : Type 0) (see : V → Desk) where
       let c = (leads o is).count in let few : x.view.state.count ≤ max_place = (leads o is).sound.writable.count in
       let l : length (v.seen ++ said) ≡ length v.seen + length said = length-append v.seen said in let s : v.start ≡ (see o).view.state.count = start in omega arith
 
+  -- passing a turn on changes nothing of what was seen
+  pub leads_passed : (w x : Knows V) (desk : Desk) → Leads w desk → x ≡ passed w → Leads x desk
+  leads_passed w x desk leads is = λ o op. subst (λ v. Since Tells PortsFail (see o) v.seen v.noted desk) (sym is) (leads o (sym (ap (λ v. v.opened) is) ∙ op))
+
   -- the store behind a read answers as the map is behind what was seen
   pub read_at : (v : Knows V) (x : Desk) (asked : Read) (given : Answer) → Leads v x → (Tells → (config : Fields) (h : History) → StandsNow config h x.view → answer (after h) asked ≡ given) → HasRead Tells see v asked given
   read_at v x asked given leads clause =
@@ -99,6 +102,13 @@ module _ {V : Type 0} (Tells PortsFail : Type 0) (see : V → Desk) where
         λ o op. subst (λ l. Since Tells PortsFail (see o) (w.seen ++ l) (w.noted ++ noted) new) (sym (told_is said calls did is called went))
         (subst (λ l. Since Tells PortsFail (see o) (w.seen ++ made) l new) (sym (ap (λ l. w.noted ++ l) none ∙ append-nil w.noted))
         (since_call Tells PortsFail (see o) old w.seen w.noted (leads o op) new caller (Makes call) why answers first same))
+
+    -- and there is room for it
+    pub room_behind : (said : List Entry) (calls : List Call) (did : Option Did) (noted : List Mark) → said ≡ entries_of caller calls did → calls ≡ call ∷ [] → did ≡ did_by (Makes call) why → noted ≡ []
+        → Answers Tells (Makes call) why (core.face_of old.view) old.view new.view → IsFirstFailure old.view.state.stopped old.view.state.count why → new.certificates ≡ old.certificates
+        → KnowsOpened all_counted see v → count_of w + length said < 2 ^ 62
+    room_behind said calls did noted is called went none answers first same knows =
+        has_room w said noted new (knows_after all_counted see v w knows more.opened more.start) (leads_behind said calls did noted is called went none answers first same)
 
     -- and this is what it knows then
     pub knows_made : (x : Knows V) (said : List Entry) (calls : List Call) (did : Option Did) (noted : List Mark) → said ≡ entries_of caller calls did → calls ≡ call ∷ [] → did ≡ did_by (Makes call) why → noted ≡ []
@@ -157,6 +167,13 @@ module _ {V : Type 0} (Tells PortsFail : Type 0) (see : V → Desk) where
         → IfErr result (HasReasonOfChange Tells PortsFail see x before now)
     reason_behind (Ok place) is fetched given = tt
     reason_behind (Err why) is fetched given = reason why is (λ name same. fetched name (ap Err same)) given
+
+-- what is known of a result, once that is known
+pub ok_of : {T E : Type 0} (P : T → Type 0) (r : Result T E) → IfOk r P → (x : T) → r ≡ Ok x → P x
+ok_of P r p x is = subst (λ q. IfOk q P) is p
+
+pub err_of : {T E : Type 0} (P : E → Type 0) (r : Result T E) → IfErr r P → (e : E) → r ≡ Err e → P e
+err_of P r p e is = subst (λ q. IfErr q P) is p
 
 -- why a read was refused, if it was
 pub reason_of_read : {T : Type 0} (Tells PortsFail : Type 0) (before now : PortCounts) (result : Result T Refused) → IfErr result IsReadRefusal
