@@ -4,7 +4,7 @@ use Rattle.std.specs.Prelude.{fold, map, option_map}
 use Rattle.std.specs.Option.{option_map_or, option_or}
 use Rattle.std.specs.Result.{result_err}
 use Rattle.std.proofs.lemmas.List.{length-append, map-append}
-use Rattle.std.proofs.lemmas.List.Elements.{All-nil}
+use Rattle.std.proofs.lemmas.List.Elements.{All-nil, All-weaker}
 use Rattle.std.proofs.lemmas.List.Sums.{fold-append}
 use Rattle.lethe_base.specs.History.{History}
 use Rattle.lethe_base.specs.declared.call.Call.{Call}
@@ -16,12 +16,11 @@ use Rattle.lethe_base.specs.declared.refused.Refused.TheVariants.{NoMemory}
 use Rattle.lethe_cert.specs.declared.certificate.Certificate.{Certificate}
 use Rattle.lethe_core.specs.Asked.{Asked, Makes, Serves, Failure, behind, call_in, clock_behind, counted, failure_of, stopped_by}
 use Rattle.lethe_core.specs.Running.{IsSound}
-use Rattle.lethe_core.specs.View.{face_of}
-use Rattle.lethe_cover.specs.Steps.{with_failed}
+use Rattle.lethe_core.specs.View.{View, face_of}
+use Rattle.lethe_cover.specs.Steps.{with_done, with_failed}
 use Rattle.lethe_disk.specs.Disk.{Seen}
 use Rattle.lethe_engine.specs.Answers.{Answers}
-use Rattle.lethe_engine.specs.StandsFor.{IsCertified, Opened, StandsFor, StandsSince}
-use Rattle.lethe_engine.proofs.Certified.{call_certified}
+use Rattle.lethe_engine.specs.StandsFor.{IsCertified, IsCertifiedBy, Opened, StandsFor, StandsSince, opened_at}
 use Rattle.lethe_state.specs.Clock.{Clock, clock_of}
 use Rattle.lethe_store.specs.declared.entry.Entry.{Entry}
 use Rattle.lethe_store.specs.declared.entry.Mark.{Mark}
@@ -123,6 +122,26 @@ calls_then old mid new first second = record {
       (λ left. before.0 (here.0 left), λ left. here.1 (before.1 left));
 }
 
+-- A certificate that stood stands behind a call, whatever was seen of the store's opening
+
+module _ (config : Fields) (opened : Opened) (h g : History) (old new : View) (on : (start : Opened) → StandsSince config start h old → StandsSince config start g new) (calls : Continues old.disk new.disk) where
+  some_certified : (certificate : Certificate) → IsCertified config opened h old certificate → IsCertified config opened g new certificate
+  some_certified certificate (before_tick, caller, is) = (before_tick, caller, record {
+    moment = is.moment;
+    from = is.from;
+    since = is.since;
+    stands = on (opened_at opened (with_done before_tick caller (Tick certificate.clock)) is.moment) is.stands;
+    number = is.number;
+    before = is.before;
+    each = λ d left. is.each d ((calls.past is.moment d is.stands.later).0 left);
+  })
+
+  all_certified : (answered : List Certificate) → StandsFor config opened h old answered → StandsFor config opened g new answered
+  all_certified answered stands = record {
+    since = on opened stands.since;
+    certified = All-weaker (IsCertified config opened h old) (IsCertified config opened g new) some_certified answered stands.certified;
+  }
+
 module _ (Tells PortsFail : Type 0) (o old : Desk) (entries : List Entry) (marks : List Mark) (since : Since Tells PortsFail o entries marks old) where
   -- whatever history the opened store stood for, it stands for that with the entries
   pub stands_along : Tells → (config : Fields) (opened : Opened) (h : History) → StandsSince config opened h o.view → StandsSince config opened (h ++ changes_of entries) old.view
@@ -135,6 +154,10 @@ module _ (Tells PortsFail : Type 0) (o old : Desk) (entries : List Entry) (marks
 
     history_is : (h : History) → behind (h ++ changes_of entries) caller asked why ≡ h ++ changes_of (entries ++ said)
     history_is h = behind_is (h ++ changes_of entries) caller asked why ∙ append_assoc h (changes_of entries) (changes_of said) ∙ ap (λ l. h ++ l) (sym (map-append change_of entries said))
+
+    -- what a crash at an earlier moment may leave is as it was
+    calls_behind : Tells → (config : Fields) (opened : Opened) (h : History) → StandsSince config opened (h ++ changes_of entries) old.view → Continues old.view.disk new.view.disk
+    calls_behind told config opened h s = let goes = answers.goes told config opened (h ++ changes_of entries) s caller in record { later = goes.later; past = goes.past }
 
     -- the store behind a call is what became of the opened one by the call's own entry
     pub since_call : Since Tells PortsFail o (entries ++ said) marks new
@@ -150,11 +173,13 @@ module _ (Tells PortsFail : Type 0) (o old : Desk) (entries : List Entry) (marks
       faults = (let a = since.faults in let b = answers.faults in omega arith);
       face = answers.face_is ∙ since.face;
       certificates = same ∙ since.certificates;
-      stands = λ told config opened h answered s. subst (λ l. StandsFor config opened l new.view answered) (history_is h)
-          (call_certified Tells asked why (face_of old.view) old.view new.view answers told config opened (h ++ changes_of entries) caller answered (since.stands told config opened h answered s));
+      stands = λ told config opened h answered s.
+          let stood = since.stands told config opened h answered s in
+          subst (λ l. StandsFor config opened l new.view answered) (history_is h)
+          (all_certified config opened (h ++ changes_of entries) (behind (h ++ changes_of entries) caller asked why) old.view new.view
+          (λ start on. answers.stands told config start (h ++ changes_of entries) on caller) (calls_behind told config opened h stood.since) answered stood);
       calls = λ told config opened h s.
-          let goes = answers.goes told config opened (h ++ changes_of entries) (stands_along told config opened h s) caller in
-          calls_then o.view.disk old.view.disk new.view.disk (since.calls told config opened h s) (record { later = goes.later; past = goes.past });
+          calls_then o.view.disk old.view.disk new.view.disk (since.calls told config opened h s) (calls_behind told config opened h (stands_along told config opened h s));
     }
 
 -- the opened store has had no entry
