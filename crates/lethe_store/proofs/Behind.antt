@@ -1,5 +1,5 @@
 -- What a session of changes knows after its calls.
-use Rattle.std.proofs.Common.{◌≡◌, ◌≤◌, ◌<◌, ◌^◌, ◌⊎◌, inl, inr, ℕ, ◌+◌, List, [], ◌∷◌, ◌++◌, length, Option, Some, None, Result, Ok, Err, refl, sym, ap, ◌∙◌, subst, arith, append-nil}
+use Rattle.std.proofs.Common.{◌≡◌, ◌≤◌, ◌<◌, ◌^◌, inl, inr, ℕ, ◌+◌, List, [], ◌∷◌, ◌++◌, length, Option, Some, None, Result, Ok, Err, refl, sym, ap, ◌∙◌, subst, arith, append-nil}
 use Rattle.std.specs.Prelude.{IfErr, IfOk, IsErrOf}
 use Rattle.std.specs.Result.{result_err}
 use Rattle.std.proofs.lemmas.List.{length-append}
@@ -13,7 +13,7 @@ use Rattle.lethe_base.specs.declared.config.Fields.{Fields}
 use Rattle.lethe_base.specs.declared.name.Name.{Name}
 use Rattle.lethe_base.specs.declared.refused.Refused.{Refused}
 use Rattle.lethe_base.specs.declared.refused.Refused.TheVariants.{Fault, Stopped, Backwards, Pinned, NothingDue, Cancelled, Exhausted, ReadFault, NoMemory, Damaged}
-use Rattle.lethe_core.specs.Asked.{Asked, Makes, Failure, call_in, failure_of}
+use Rattle.lethe_core.specs.Asked.{Makes}
 use Rattle.lethe_core.specs.StandsNow.{StandsNow}
 use Rattle.lethe_core.specs.View as core
 use Rattle.lethe_engine.specs.Answers.{Answers}
@@ -23,11 +23,11 @@ use Rattle.lethe_turn.specs.Seats.{HasSeenMore, count_of, entered, passed, passe
 use Rattle.lethe_turn.specs.declared.view.View.{View}
 use Rattle.lethe_store.specs.declared.entry.Entry.{Entry}
 use Rattle.lethe_store.specs.declared.entry.Mark.{Mark}
-use Rattle.lethe_store.specs.Desks.{Desk, failure_in}
+use Rattle.lethe_store.specs.Desks.{Desk}
 use Rattle.lethe_store.specs.Entries.{changes_of, did_by, entries_by, entries_of, stopped_behind}
 use Rattle.lethe_store.specs.Reads.{HasRead, HasReadClock, IsClockSeen}
 use Rattle.lethe_store.specs.Reasons.{HasReasonOfChange, HasReasonOfRead, IsStoppedAt, PortCounts}
-use Rattle.lethe_store.specs.Sessions.{HasDone, IsLedTo, KnowsOpened}
+use Rattle.lethe_store.specs.Sessions.{IsLedTo, KnowsOpened}
 use Rattle.lethe_store.specs.Since.{Since, all_counted}
 use Rattle.lethe_store.proofs.Seats.{knows_after}
 use Rattle.lethe_store.specs.Laws.{IsFirstFailure, since_call, stands_along, stays_stopped}

@@ -1,10 +1,10 @@
 -- What a session knows after a call, whatever its log.
-use Rattle.std.proofs.Common.{◌≡◌, ◌≤◌, ◌<◌, ◌^◌, ℕ, ◌+◌, ◌-◌, ◌/◌, List, [], ◌∷◌, ◌++◌, length, Option, Some, None, refl, sym, ap, ◌∙◌, subst, arith, append-nil}
-use Rattle.lethe_turn.specs.Lists.{IsBeginning, placed}
-use Rattle.lethe_turn.specs.Seats.{Finished, HasSeenMore, IsFree, Joined, Seated, count_of, entered, first_view, left_of, passed, passed_noting, right_of}
+use Rattle.std.proofs.Common.{◌≡◌, ◌<◌, ◌^◌, ℕ, ◌+◌, ◌-◌, ◌/◌, List, [], ◌++◌, length, sym, ap, ◌∙◌, subst, arith, append-nil}
+use Rattle.lethe_turn.specs.Lists.{placed}
+use Rattle.lethe_turn.specs.Seats.{HasSeenMore, IsFree, Joined, Seated, entered, first_view, left_of, passed, passed_noting, right_of}
 use Rattle.lethe_turn.specs.declared.view.View.{View}
 use Rattle.lethe_store.specs.Desks.{Desk, IsSameStore}
-use Rattle.lethe_store.specs.Sessions.{HasDone, HasFinished, HasSplit, IsFirst, IsLedTo, IsReady, KnowsOpened}
+use Rattle.lethe_store.specs.Sessions.{HasDone, HasSplit, IsFirst, IsReady, KnowsOpened}
 
 module _ {E M V : Type 0} where
   -- a turn was taken, and passed on with these entries and these marks

@@ -1,6 +1,6 @@
 -- The laws of the log of changes: each call keeps what became of the opened store.
-use Rattle.std.proofs.Common.{◌≡◌, ◌≤◌, ℕ, ◌+◌, List, [], ◌∷◌, ◌++◌, length, Option, Some, None, Result, Ok, Err, refl, sym, ap, ◌∙◌, subst, arith, append-nil, append_assoc}
-use Rattle.std.specs.Prelude.{fold, map, option_map}
+use Rattle.std.proofs.Common.{◌≡◌, ℕ, ◌+◌, List, [], ◌∷◌, ◌++◌, length, Option, Some, None, Result, Ok, Err, refl, sym, ap, ◌∙◌, subst, arith, append-nil, append_assoc}
+use Rattle.std.specs.Prelude.{option_map}
 use Rattle.std.specs.Option.{option_map_or, option_or}
 use Rattle.std.specs.Result.{result_err}
 use Rattle.std.proofs.lemmas.List.{length-append, map-append}
@@ -14,18 +14,18 @@ use Rattle.lethe_base.specs.declared.config.Fields.{Fields}
 use Rattle.lethe_base.specs.declared.refused.Refused.{Refused}
 use Rattle.lethe_base.specs.declared.refused.Refused.TheVariants.{NoMemory}
 use Rattle.lethe_cert.specs.declared.certificate.Certificate.{Certificate}
-use Rattle.lethe_core.specs.Asked.{Asked, Makes, Serves, Failure, behind, call_in, clock_behind, counted, failure_of, stopped_by}
+use Rattle.lethe_core.specs.Asked.{Asked, Makes, Serves, Failure, behind, clock_behind, counted, failure_of, stopped_by}
 use Rattle.lethe_core.specs.Running.{IsSound}
 use Rattle.lethe_core.specs.View.{View, face_of}
 use Rattle.lethe_cover.specs.Steps.{with_done, with_failed}
 use Rattle.lethe_disk.specs.Disk.{Seen}
 use Rattle.lethe_engine.specs.Answers.{Answers}
-use Rattle.lethe_engine.specs.StandsFor.{IsCertified, IsCertifiedBy, Opened, StandsFor, StandsSince, opened_at}
+use Rattle.lethe_engine.specs.StandsFor.{IsCertified, Opened, StandsFor, StandsSince, opened_at}
 use Rattle.lethe_state.specs.Clock.{Clock, clock_of}
 use Rattle.lethe_store.specs.declared.entry.Entry.{Entry}
 use Rattle.lethe_store.specs.declared.entry.Mark.{Mark}
 use Rattle.lethe_store.specs.Desks.{Desk, IsSameStore, failure_in}
-use Rattle.lethe_store.specs.Entries.{change_of, changes_of, clock_along, clock_by, did_by, entries_by, entries_of, failed_at, stopped_behind}
+use Rattle.lethe_store.specs.Entries.{change_of, changes_of, clock_along, clock_by, entries_by, entries_of, failed_at, stopped_behind}
 use Rattle.lethe_store.specs.Since.{AnyMarks, Continues, Since}
 
 -- What is entered of a call is what the call says of the history, of the count, of what stopped the store, and of the clock

@@ -1,7 +1,7 @@
-use Rattle.std.proofs.Common.{◌≡◌, ◌<◌, sym, ap, ◌∙◌, subst}
+use Rattle.std.proofs.Common.{◌<◌, sym, ap, ◌∙◌, subst}
 use Rattle.lethe_store.specs.Desks.{desk_of}
 use Rattle.lethe_store.specs.Laws.{same_behind_port}
-use Rattle.lethe_store.proofs.Seats.{looked_ready, more_passed, ready_left, ready_right, split_so}
+use Rattle.lethe_store.proofs.Seats.{looked_ready, ready_left, ready_right, split_so}
 use Rattle.lethe_store.proofs.store.Store.split.Goals as goal
 
 pub put_back-requires-clause-since : goal.put_back-requires-clause-since
