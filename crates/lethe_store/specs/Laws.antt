@@ -126,15 +126,19 @@ calls_then old mid new first second = record {
 
 module _ (config : Fields) (opened : Opened) (h g : History) (old new : View) (on : (start : Opened) → StandsSince config start h old → StandsSince config start g new) (calls : Continues old.disk new.disk) where
   some_certified : (certificate : Certificate) → IsCertified config opened h old certificate → IsCertified config opened g new certificate
-  some_certified certificate (before_tick, caller, is) = (before_tick, caller, record {
-    moment = is.moment;
-    from = is.from;
-    since = is.since;
-    stands = on (opened_at opened (with_done before_tick caller (Tick certificate.clock)) is.moment) is.stands;
-    number = is.number;
-    before = is.before;
-    each = λ d left. is.each d ((calls.past is.moment d is.stands.later).0 left);
-  })
+  some_certified certificate (before_tick, caller, is) = (
+    before_tick,
+    caller,
+    record {
+      moment = is.moment;
+      from = is.from;
+      since = is.since;
+      stands = on (opened_at opened (with_done before_tick caller (Tick certificate.clock)) is.moment) is.stands;
+      number = is.number;
+      before = is.before;
+      each = λ d left. is.each d ((calls.past is.moment d is.stands.later).0 left);
+    },
+  )
 
   all_certified : (answered : List Certificate) → StandsFor config opened h old answered → StandsFor config opened g new answered
   all_certified answered stands = record {
