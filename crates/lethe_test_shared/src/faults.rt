@@ -50,13 +50,50 @@ fn get<D: Disk, R: Wait + Abort>(
             Some(read.at)
         }
         Err(why) => {
-            assert!(rt; why == Refused::ReadFault { before: 0, after: 1 }, "{why:?}");
+            assert!(rt;
+                why == Refused::ReadFault {
+                    before: 0,
+                    after: 1
+                },
+                "{why:?}"
+            );
             None
         }
     }
 }
 
-/// A disk in memory whose third put from here on fails.
+/// Puts until the device fails in a put, and answers the place of that one.
+fn puts_to_the_fault<D: Disk, R: Wait + Abort>(
+    alloc: Global,
+    rt: &R,
+    store: &Shared<D>,
+    session: &mut Caller<D>,
+) -> u64
+    requires of { session.old.seat.table_id ≡ store.now.turn.table.shared.table_id }
+    requires ready { IsReady all_counted (λ o. desk_of o.engine) session.old.seat.me }
+    ensures of { session.new.seat.table_id ≡ session.old.seat.table_id }
+    ensures ready { IsReady all_counted (λ o. desk_of o.engine) session.new.seat.me }
+{
+    for place in 1..100 {
+        match put(alloc, rt, store, session, "a") {
+            Ok(done) => assert!(rt; done == place, "{done} for {place}"),
+            Err(
+                Refused::Fault {
+                    place: failed,
+                    before: 0,
+                    after: 1,
+                },
+            ) => {
+                assert!(rt; failed == place, "{failed} for {place}");
+                return place;
+            }
+            Err(why) => panic!(rt; "{why:?}"),
+        }
+    }
+    panic!(rt; "the device didn't fail")
+}
+
+/// A disk in memory whose calls fail from the seventeenth on.
 fn fused(alloc: Global, rt: &impl Abort) -> MemDisk {
     let mut disk = MemDisk::new(alloc, 20_000, Vec::new(alloc)).expect(rt, "memory");
     disk.fuse(16);
@@ -70,14 +107,17 @@ fn where_the_device_fails_in_one_put_the_others_are_stopped_by_it_and_read_on(rt
     let Ok(mut other) = store.split(&rt, alloc, &mut one, 2) else {
         panic!(rt; "memory")
     };
-    let mut place = 1;
-    while put(alloc, &rt, &store, &mut one, "a") == Ok(place) && place < 100 {
-        place += 1;
-    }
+    let place = puts_to_the_fault(alloc, &rt, &store, &mut one);
     let refused = put(alloc, &rt, &store, &mut other, "b");
-    assert!(rt; refused == Err(Refused::Stopped { at: place }), "{refused:?} {place}");
+    assert!(rt;
+        refused == Err(Refused::Stopped { at: place }),
+        "{refused:?} {place}"
+    );
     let refused = put(alloc, &rt, &store, &mut one, "c");
-    assert!(rt; refused == Err(Refused::Stopped { at: place }), "{refused:?} {place}");
+    assert!(rt;
+        refused == Err(Refused::Stopped { at: place }),
+        "{refused:?} {place}"
+    );
     assert!(rt; get(alloc, &rt, &store, &mut other, "a") == Some(place));
     store.join(&mut one, other);
     let engine = store.finish(&rt, one);

@@ -44,7 +44,14 @@ fn put_and_get<D: Disk, R: Wait + Abort>(
     ensures ready { IsReady all_counted (λ o. desk_of o.engine) session.new.seat.me }
 {
     let value = value_at(alloc, rt, name, number);
-    let put = store.put(rt, alloc, session, key_at(alloc, rt, name, number), 7, value);
+    let put = store.put(
+        rt,
+        alloc,
+        session,
+        key_at(alloc, rt, name, number),
+        7,
+        value,
+    );
     let Ok(place) = put else {
         panic!(rt; "a put was refused")
     };
@@ -118,7 +125,10 @@ fn is_ascending(places: &[u64]) -> bool {
 /// The places have to be 1 to 100, each once, ascending for each session.
 fn check_places(rt: &impl Abort, one: &[u64], other: &[u64]) {
     assert!(rt; one.len() == 50 && other.len() == 50);
-    assert!(rt; is_ascending(one) && is_ascending(other), "{one:?} {other:?}");
+    assert!(rt;
+        is_ascending(one) && is_ascending(other),
+        "{one:?} {other:?}"
+    );
     for place in 1..101 {
         assert!(rt; one.contains(&place) != other.contains(&place), "{place}");
     }

@@ -54,6 +54,31 @@ fn has_at<D: Disk, R: Wait + Abort>(
     assert!(rt; found && read.at == at, "{} at {}", put.0, read.at);
 }
 
+/// Puts ten keys, the first changes of the store.
+fn ten<D: Disk, R: Wait + Abort>(alloc: Global, rt: &R, store: &Shared<D>, session: &mut Caller<D>)
+    requires of { session.old.seat.table_id ≡ store.now.turn.table.shared.table_id }
+    requires ready { IsReady all_counted (λ o. desk_of o.engine) session.old.seat.me }
+    ensures of { session.new.seat.table_id ≡ session.old.seat.table_id }
+    ensures ready { IsReady all_counted (λ o. desk_of o.engine) session.new.seat.me }
+    ensures parts { session.new.seat.me.0.parts ≡ session.old.seat.me.0.parts }
+{
+    let rows = [
+        ("a", 1),
+        ("b", 2),
+        ("c", 3),
+        ("d", 4),
+        ("e", 5),
+        ("f", 6),
+        ("g", 7),
+        ("h", 8),
+        ("i", 9),
+        ("j", 10),
+    ];
+    for row in rows {
+        puts_at(alloc, rt, store, session, (row.0, "value"), row.1);
+    }
+}
+
 fn empty(alloc: Global, rt: &impl Abort) -> MemDisk {
     MemDisk::new(alloc, 20_000, Vec::new(alloc)).expect(rt, "memory")
 }
@@ -78,12 +103,7 @@ fn two_sessions_put_and_get_one_after_another(rt: HostRuntime) {
 fn a_session_split_from_one_that_has_seen_ten_changes_sees_ten(rt: HostRuntime) {
     let alloc = rt.alloc();
     let (store, mut one) = shared(alloc, &rt, opened(alloc, &rt, empty(alloc, &rt)));
-    let keys = ["a", "b", "c", "d", "e", "f", "g", "h", "i", "j"];
-    let mut place = 0;
-    for key in keys {
-        place += 1;
-        puts_at(alloc, &rt, &store, &mut one, (key, "value"), place);
-    }
+    ten(alloc, &rt, &store, &mut one);
     let Ok(mut other) = store.split(&rt, alloc, &mut one, 2) else {
         panic!(rt; "memory")
     };
