@@ -1,7 +1,7 @@
 use denote.Builtin.{u64}
 use denote.Param.{param}
 use denote.Param.Send.{param_send, sendable}
-use Rattle.std.proofs.Common.{◌≡◌, [], ap, ◌∙◌, subst}
+use Rattle.std.proofs.Common.{[], ap, ◌∙◌, subst}
 use Rattle.std.proofs.Crossing.{crosses}
 use Rattle.std.specs.Result.{result_err}
 use Rattle.lethe_base.specs.contracts.refused.Refused as Refused
@@ -37,7 +37,7 @@ join-one-requires-send-A g c κs within =
     let e = session_send (param 0 g.row.D) Changes.the_row (param 2 g.row.D-Page) (param 3 g.row.D-Port) Entry.the_row Mark.the_row g.D.Disk c.type_bounds.send-D-Page c.type_bounds.sync-D-Page c.type_bounds.send-D c.type_bounds.send-D-Port in
     let r = result_send u64 Refused.the_row (search sendable) refused_send in
     param_send 3 (lts.arg-6-3 g.row.D g.row.R g.row.D-Page g.row.D-Port g.D.laws g.R.laws g.D.Page.laws g.D.Port.laws g.D.Disk g.D.Disk-dict g.R.Threads g.R.Threads-dict g.R.Wait g.R.Wait-dict g.D.Destruct-dict g.D.Page.Destruct-dict g.D.Port.Destruct-dict κs)
-    (record { owned = λ x vs vss. (tt, (e.owned x.0 vss.0, (r.owned x.1 vss.1.0, tt))); leaving = λ k x w. (e.leaving denote.Exit.no x.0 w.0, (r.leaving denote.Exit.no x.1 w.1.0, tt)) })
+    (record { owned = λ x vs vss. (tt, (e.owned x.0 vss.0, (r.owned x.1 vss.1.0, tt))); leaving = λ k x w. (e.leaving denote.Exit.no x.0 w.0, tt) })
 
 pub returns : goal.returns
 returns g c =
@@ -51,6 +51,6 @@ returns g c =
     let right = c.join-one.result.1.0.seat.me.0 in
     in_one_history g.D.Disk.tells g.D.Disk.ports_fail (λ o. desk_of o.engine) (desk_of c.args.engine) (desk_of c.finish-engine.result) c.requires f.0 f.2 u v w left right c.join.new.session.seat.me.0
     (ap (λ m. m.0) f.1) c.in-Ok.ensures.split a b c.join-one.result.0.1 c.join-one.result.1.1
-    (subst (λ n. HasDone (entries_by n (Makes a) (result_err c.join-one.result.0.1)) [] v left) (c.in-Ok.ensures.of.1 ∙ c.in_ok-store.ensures.of.1) c.join-one.ensures.first.done)
-    (subst (λ n. HasDone (entries_by n (Makes b) (result_err c.join-one.result.1.1)) [] w right) c.in-Ok.ensures.other_of.1 c.join-one.ensures.second.done)
-    c.join-one.ensures.first.place c.join-one.ensures.second.place c.join.ensures.joined c.finish-engine.ensures
+    (subst (λ n. HasDone (entries_by n (Makes a) (result_err c.join-one.result.0.1)) [] v left) (c.in-Ok.ensures.of.1 ∙ c.in_ok-store.ensures.of.1) c.join-one.ensures.first.1.1.0)
+    (subst (λ n. HasDone (entries_by n (Makes b) (result_err c.join-one.result.1.1)) [] w right) c.in-Ok.ensures.other_of.1 c.join-one.ensures.second.1.1.0)
+    c.join-one.ensures.first.1.1.1 c.join-one.ensures.second.1.1.1 c.join.ensures.joined c.finish-engine.ensures
