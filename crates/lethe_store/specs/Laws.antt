@@ -1,0 +1,242 @@
+-- The laws of the log of changes: each call keeps what became of the opened store.
+use Rattle.std.proofs.Common.{◌≡◌, ℕ, ◌+◌, List, [], ◌∷◌, ◌++◌, length, Option, Some, None, Result, Ok, Err, refl, sym, ap, ◌∙◌, subst, arith, append-nil, append_assoc}
+use Rattle.std.specs.Prelude.{option_map}
+use Rattle.std.specs.Option.{option_map_or, option_or}
+use Rattle.std.specs.Result.{result_err}
+use Rattle.std.proofs.lemmas.List.{length-append, map-append}
+use Rattle.std.proofs.lemmas.List.Elements.{All-nil, All-weaker}
+use Rattle.std.proofs.lemmas.List.Sums.{fold-append}
+use Rattle.lethe_base.specs.History.{History}
+use Rattle.lethe_base.specs.declared.call.Call.{Call}
+use Rattle.lethe_base.specs.declared.call.Call.TheVariants.{Put, Delete, Erase, Tick, Work}
+use Rattle.lethe_base.specs.declared.call.Did.TheVariants.{Failed}
+use Rattle.lethe_base.specs.declared.config.Fields.{Fields}
+use Rattle.lethe_base.specs.declared.refused.Refused.{Refused}
+use Rattle.lethe_base.specs.declared.refused.Refused.TheVariants.{NoMemory}
+use Rattle.lethe_cert.specs.declared.certificate.Certificate.{Certificate}
+use Rattle.lethe_core.specs.Asked.{Asked, Makes, Serves, Failure, behind, clock_behind, counted, failure_of, stopped_by}
+use Rattle.lethe_core.specs.Running.{IsSound}
+use Rattle.lethe_core.specs.View.{View, face_of}
+use Rattle.lethe_cover.specs.Steps.{with_done, with_failed}
+use Rattle.lethe_disk.specs.Disk.{Seen}
+use Rattle.lethe_engine.specs.Answers.{Answers}
+use Rattle.lethe_engine.specs.StandsFor.{IsCertified, Opened, StandsFor, StandsSince, opened_at}
+use Rattle.lethe_state.specs.Clock.{Clock, clock_of}
+use Rattle.lethe_store.specs.declared.entry.Entry.{Entry}
+use Rattle.lethe_store.specs.declared.entry.Mark.{Mark}
+use Rattle.lethe_store.specs.Desks.{Desk, IsSameStore, failure_in}
+use Rattle.lethe_store.specs.Entries.{change_of, changes_of, clock_along, clock_by, entries_by, entries_of, failed_at, stopped_behind}
+use Rattle.lethe_store.specs.Since.{AnyMarks, Continues, Since}
+
+-- What is entered of a call is what the call says of the history, of the count, of what stopped the store, and of the clock
+
+failed_is : (h : History) (caller : ℕ) (call : Call) (o : Option Failure)
+    → option_map_or (λ failure. with_failed h caller call failure.before failure.after) o h ≡ h ++ changes_of (entries_of caller (call ∷ []) (option_map (λ failure. Failed failure.before failure.after) o))
+failed_is h caller call None = sym (append-nil h)
+failed_is h caller call (Some failure) = refl
+
+pub behind_is : (h : History) (caller : ℕ) (asked : Asked) (why : Option Refused) → behind h caller asked why ≡ h ++ changes_of (entries_by caller asked why)
+behind_is h caller (Makes call) None = refl
+behind_is h caller (Serves call) None = sym (append-nil h)
+behind_is h caller (Makes call) (Some why) = failed_is h caller call (failure_of why)
+behind_is h caller (Serves call) (Some why) = failed_is h caller call (failure_of why)
+
+failed_counts : (caller : ℕ) (call : Call) (count : ℕ) (o : Option Failure)
+    → option_map_or (λ failure. count + 1) o count ≡ count + length (entries_of caller (call ∷ []) (option_map (λ failure. Failed failure.before failure.after) o))
+failed_counts caller call count None = (let e : count ≡ count + 0 = omega arith in e)
+failed_counts caller call count (Some failure) = refl
+
+pub counted_is : (caller : ℕ) (asked : Asked) (why : Option Refused) (count : ℕ) → counted asked why count ≡ count + length (entries_by caller asked why)
+counted_is caller (Makes call) None count = refl
+counted_is caller (Serves call) None count = (let e : count ≡ count + 0 = omega arith in e)
+counted_is caller (Makes call) (Some why) count = failed_counts caller call count (failure_of why)
+counted_is caller (Serves call) (Some why) count = failed_counts caller call count (failure_of why)
+
+-- the disk's failure in a call is the first one, and it has the next place
+abbrev pub IsFirstFailure : Option ℕ → ℕ → Option Refused → Type 0
+IsFirstFailure stopped count why = (failure : Failure) → failure_in why ≡ Some failure → (stopped ≡ None) × (failure.place ≡ count + 1)
+
+failed_stops : (caller : ℕ) (call : Call) (stopped : Option ℕ) (count : ℕ) (o : Option Failure) → ((failure : Failure) → o ≡ Some failure → (stopped ≡ None) × (failure.place ≡ count + 1))
+    → option_or (option_map (λ failure. failure.place) o) stopped ≡ stopped_behind stopped count (entries_of caller (call ∷ []) (option_map (λ failure. Failed failure.before failure.after) o))
+failed_stops caller call (Some at) count None first = refl
+failed_stops caller call None count None first = refl
+failed_stops caller call stopped count (Some failure) first =
+    let is = first failure refl in
+    ap Some is.1 ∙ sym (ap (λ s. stopped_behind s count (entries_of caller (call ∷ []) (Some (Failed failure.before failure.after)))) is.0)
+
+same_stopped : (stopped : Option ℕ) (count : ℕ) → stopped ≡ stopped_behind stopped count []
+same_stopped (Some at) count = refl
+same_stopped None count = refl
+
+done_stops : (stopped : Option ℕ) (count caller : ℕ) (call : Call) → stopped ≡ stopped_behind stopped count (entries_by caller (Makes call) None)
+done_stops (Some at) count caller call = refl
+done_stops None count caller call = refl
+
+pub stopped_is : (caller : ℕ) (asked : Asked) (why : Option Refused) (stopped : Option ℕ) (count : ℕ) → IsFirstFailure stopped count why
+    → stopped_by why stopped ≡ stopped_behind stopped count (entries_by caller asked why)
+stopped_is caller (Makes call) None stopped count first = done_stops stopped count caller call
+stopped_is caller (Serves call) None stopped count first = same_stopped stopped count
+stopped_is caller (Makes call) (Some why) stopped count first = failed_stops caller call stopped count (failure_of why) first
+stopped_is caller (Serves call) (Some why) stopped count first = failed_stops caller call stopped count (failure_of why) first
+
+pub stopped-append : (stopped : Option ℕ) (count : ℕ) (a b : List Entry) → stopped_behind stopped count (a ++ b) ≡ stopped_behind (stopped_behind stopped count a) (count + length a) b
+stopped-append (Some at) count a b = refl
+stopped-append None count [] b = ap (λ n. stopped_behind None n b) (let e : count ≡ count + 0 = omega arith in e)
+stopped-append None count (entry ∷ a) b =
+    stopped-append (failed_at entry.did (count + 1)) (count + 1) a b
+    ∙ ap (λ n. stopped_behind (stopped_behind (failed_at entry.did (count + 1)) (count + 1) a) n b) (let e : count + 1 + length a ≡ count + length (entry ∷ a) = omega arith in e)
+
+-- once a store is stopped it stays so, whatever is seen behind that
+pub stays_stopped : (stopped : Option ℕ) (count at : ℕ) (a b : List Entry) → stopped_behind stopped count a ≡ Some at → stopped_behind stopped count (a ++ b) ≡ Some at
+stays_stopped stopped count at a b is = stopped-append stopped count a b ∙ ap (λ s. stopped_behind s (count + length a) b) is
+
+failed_clocks : (caller : ℕ) (call : Call) (clock : Clock) (o : Option Failure) → clock ≡ clock_along clock (entries_of caller (call ∷ []) (option_map (λ failure. Failed failure.before failure.after) o))
+failed_clocks caller call clock None = refl
+failed_clocks caller call clock (Some failure) = refl
+
+refused_clock : (call : Call) (why : Refused) (clock : Clock) → clock_behind (Makes call) (Some why) clock ≡ clock
+refused_clock (Put key dkey value) why clock = refl
+refused_clock (Delete key) why clock = refl
+refused_clock (Erase range) why clock = refl
+refused_clock (Tick to) why clock = refl
+refused_clock Work why clock = refl
+
+pub clock_is : (caller : ℕ) (asked : Asked) (why : Option Refused) (clock : Clock) → clock_behind asked why clock ≡ clock_along clock (entries_by caller asked why)
+clock_is caller (Makes call) None clock = refl
+clock_is caller (Serves call) None clock = refl
+clock_is caller (Makes call) (Some why) clock = refused_clock call why clock ∙ failed_clocks caller call clock (failure_of why)
+clock_is caller (Serves call) (Some why) clock = failed_clocks caller call clock (failure_of why)
+
+-- Device calls one behind another
+
+pub calls_still : (disk : Seen) → Continues disk disk
+calls_still disk = record { later = omega arith; past = λ m c le. (λ left. left, λ left. left) }
+
+calls_then : (old mid new : Seen) → Continues old mid → Continues mid new → Continues old new
+calls_then old mid new first second = record {
+  later = let a = first.later in let b = second.later in omega (arith, a, b);
+  past = λ m c le.
+      let low = first.later in
+      let here = second.past m c (omega (arith, low)) in
+      let before = first.past m c le in
+      (λ left. before.0 (here.0 left), λ left. here.1 (before.1 left));
+}
+
+-- A certificate that stood stands behind a call, whatever was seen of the store's opening
+
+module _ (config : Fields) (opened : Opened) (h g : History) (old new : View) (on : (start : Opened) → StandsSince config start h old → StandsSince config start g new) (calls : Continues old.disk new.disk) where
+  some_certified : (certificate : Certificate) → IsCertified config opened h old certificate → IsCertified config opened g new certificate
+  some_certified certificate (before_tick, caller, is) = (
+    before_tick,
+    caller,
+    record {
+      moment = is.moment;
+      from = is.from;
+      since = is.since;
+      stands = on (opened_at opened (with_done before_tick caller (Tick certificate.clock)) is.moment) is.stands;
+      number = is.number;
+      before = is.before;
+      each = λ d left. is.each d ((calls.past is.moment d is.stands.later).0 left);
+    },
+  )
+
+  all_certified : (answered : List Certificate) → StandsFor config opened h old answered → StandsFor config opened g new answered
+  all_certified answered stands = record {
+    since = on opened stands.since;
+    certified = All-weaker (IsCertified config opened h old) (IsCertified config opened g new) some_certified answered stands.certified;
+  }
+
+module _ (Tells PortsFail : Type 0) (o old : Desk) (entries : List Entry) (marks : List Mark) (since : Since Tells PortsFail o entries marks old) where
+  -- whatever history the opened store stood for, it stands for that with the entries
+  pub stands_along : Tells → (config : Fields) (opened : Opened) (h : History) → StandsSince config opened h o.view → StandsSince config opened (h ++ changes_of entries) old.view
+  stands_along told config opened h s = (since.stands told config opened h [] (record { since = s; certified = All-nil (IsCertified config opened h o.view) })).since
+
+  module _ (new : Desk) (caller : ℕ) (asked : Asked) (why : Option Refused) (answers : Answers Tells asked why (face_of old.view) old.view new.view)
+      (first : IsFirstFailure old.view.state.stopped old.view.state.count why) (same : new.certificates ≡ old.certificates) where
+    abbrev said : List Entry
+    said = entries_by caller asked why
+
+    history_is : (h : History) → behind (h ++ changes_of entries) caller asked why ≡ h ++ changes_of (entries ++ said)
+    history_is h = behind_is (h ++ changes_of entries) caller asked why ∙ append_assoc h (changes_of entries) (changes_of said) ∙ ap (λ l. h ++ l) (sym (map-append change_of entries said))
+
+    -- what a crash at an earlier moment may leave is as it was
+    calls_behind : Tells → (config : Fields) (opened : Opened) (h : History) → StandsSince config opened (h ++ changes_of entries) old.view → Continues old.view.disk new.view.disk
+    calls_behind told config opened h s = let goes = answers.goes told config opened (h ++ changes_of entries) s caller in record { later = goes.later; past = goes.past }
+
+    -- the store behind a call is what became of the opened one by the call's own entry
+    pub since_call : Since Tells PortsFail o (entries ++ said) marks new
+    since_call = record {
+      sound = answers.sound;
+      count = answers.count ∙ counted_is caller asked why old.view.state.count
+          ∙ (let c = since.count in let l : length (entries ++ said) ≡ length entries + length said = length-append entries said in
+          let e : old.view.state.count + length said ≡ o.view.state.count + length (entries ++ said) = omega arith in e);
+      stopped = answers.stopped ∙ stopped_is caller asked why old.view.state.stopped old.view.state.count first
+          ∙ (λ i. stopped_behind (since.stopped i) (since.count i) said) ∙ sym (stopped-append o.view.state.stopped o.view.state.count entries said);
+      clock = answers.clock ∙ clock_is caller asked why (clock_of old.view.state.manifest) ∙ ap (λ (clock : Clock). clock_along clock said) since.clock
+          ∙ sym (fold-append (λ (clock : Clock) (entry : Entry). clock_by entry.did entry.call clock) (clock_of o.view.state.manifest) entries said);
+      faults = (let a = since.faults in let b = answers.faults in omega arith);
+      face = answers.face_is ∙ since.face;
+      certificates = same ∙ since.certificates;
+      stands = λ told config opened h answered s.
+          let stood = since.stands told config opened h answered s in
+          subst (λ l. StandsFor config opened l new.view answered) (history_is h)
+          (all_certified config opened (h ++ changes_of entries) (behind (h ++ changes_of entries) caller asked why) old.view new.view
+          (λ start on. answers.stands told config start (h ++ changes_of entries) on caller) (calls_behind told config opened h stood.since) answered stood);
+      calls = λ told config opened h s.
+          calls_then o.view.disk old.view.disk new.view.disk (since.calls told config opened h s) (calls_behind told config opened h (stands_along told config opened h s));
+    }
+
+-- the opened store has had no entry
+pub since_opened : (Tells PortsFail : Type 0) (o : Desk) → IsSound Tells o.view → Since Tells PortsFail o [] [] o
+since_opened Tells PortsFail o sound = record {
+  sound = sound;
+  count = (let e : o.view.state.count ≡ o.view.state.count + 0 = omega arith in e);
+  stopped = same_stopped o.view.state.stopped o.view.state.count;
+  clock = refl;
+  faults = omega arith;
+  face = refl;
+  certificates = refl;
+  stands = λ told config opened h answered s. subst (λ l. StandsFor config opened l o.view answered) (sym (append-nil h)) s;
+  calls = λ told config opened h s. calls_still o.view.disk;
+}
+
+nothing_said : (caller : ℕ) (why : Option Refused) → failure_in why ≡ None → entries_by caller (Serves Work) why ≡ []
+nothing_said caller None unfailed = refl
+nothing_said caller (Some why) unfailed = ap (λ o. entries_of caller (Work ∷ []) (option_map (λ failure. Failed failure.before failure.after) o)) unfailed
+
+-- where nothing of the store was changed it is what it was
+pub since_same : (Tells PortsFail : Type 0) (o : Desk) (entries : List Entry) (marks : List Mark) (old new : Desk) → Since Tells PortsFail o entries marks old → IsSameStore Tells old new → Since Tells PortsFail o entries marks new
+since_same Tells PortsFail o entries marks old new since same =
+    subst (λ l. Since Tells PortsFail o l marks new) (ap (λ l. entries ++ l) (nothing_said 0 same.why same.unfailed) ∙ append-nil entries)
+    (since_call Tells PortsFail o old entries marks since new 0 (Serves Work) same.why same.answers (λ failure is. absurd (clash failure (sym same.unfailed ∙ is))) same.certificates)
+  where
+    clash : (failure : Failure) → None ≡ Some failure → ⊥
+    clash failure is = cc
+
+-- making a port is no failure of the disk
+port_unfailed : {T E : Type 0} (r : Result T E) → failure_in (option_map (λ none. NoMemory) (result_err r)) ≡ None
+port_unfailed (Ok port) = refl
+port_unfailed (Err none) = refl
+
+-- so nothing of the store is changed, whether or not there was memory
+pub same_behind_port : {T E : Type 0} (Tells : Type 0) (old new : Desk) (r : Result T E) → Answers Tells (Serves Work) (option_map (λ none. NoMemory) (result_err r)) (face_of old.view) old.view new.view
+    → new.view.state ≡ old.view.state → new.view.pins ≡ old.view.pins → new.certificates ≡ old.certificates → IsSameStore Tells old new
+same_behind_port Tells old new r answers state pins certificates = record {
+  why = option_map (λ none. NoMemory) (result_err r);
+  unfailed = port_unfailed r;
+  answers = answers;
+  state = state;
+  pins = pins;
+  certificates = certificates;
+}
+
+-- The laws
+
+pub any_none : AnyMarks []
+any_none = tt
+
+pub any_both : (a b : List Mark) → AnyMarks a → AnyMarks b → AnyMarks (a ++ b)
+any_both a b first second = tt
+
+pub since_sound : (Tells PortsFail : Type 0) (opened : Desk) (entries : List Entry) (marks : List Mark) (desk : Desk) → Since Tells PortsFail opened entries marks desk → IsSound Tells desk.view
+since_sound Tells PortsFail opened entries marks desk since = since.sound

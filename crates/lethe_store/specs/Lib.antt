@@ -1,0 +1,7 @@
+pub mod Desks
+pub mod Sessions
+pub mod Entries
+pub mod Since
+pub mod Laws
+pub mod Reads
+pub mod Reasons

@@ -1,0 +1,23 @@
+//! One store, shared by sessions: each call is made in one turn, and all of them have one history.
+//!
+//! What is entered into that history the user of a `Store` chooses by its `Log`. `Changes` is the log of a program that embeds the store.
+#![tactic(auto)]
+
+mod asking;
+mod changes;
+mod changing;
+mod entry;
+mod lent;
+mod log;
+mod reading;
+mod session;
+mod store;
+mod telling;
+
+pub use changes::Changes;
+pub use entry::{Entry, Mark};
+pub use lent::Lent;
+pub use log::Log;
+pub use reading::Read;
+pub use session::Session;
+pub use store::Store;

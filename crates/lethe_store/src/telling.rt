@@ -1,0 +1,74 @@
+//! What is told of each call, in values that have no bytes.
+ghost use Rattle.std.specs.Prelude.{◌≡◌, ℕ, [], ◌∷◌, length};
+ghost use Rattle.std.specs.Result.{result_err};
+ghost use Rattle.lethe_base.specs.declared.call.Call as calls;
+ghost use Rattle.lethe_core.specs.Asked.{Makes};
+ghost use Rattle.lethe_engine.specs.ChangeRows.{call_of};
+ghost use Rattle.lethe_store.specs.Entries.{did_by, entries_of, failed_by};
+
+use crate::entry::Entry;
+use lethe_base::{Call, Did, Refused};
+use lethe_engine::Asked;
+use lethe_turn::{Names, Told};
+use std::marker::Brand;
+
+fn named_call<N: Names<Call>>(asked: &Asked) -> Told<Call>
+    requires { N.named ≡ call_of asked.now ∷ [] }
+    ensures { result.items ≡ call_of asked.now ∷ [] }
+{
+    Told::list::<N>()
+}
+
+/// The call that a change is, told before the change is moved into it.
+pub(crate) fn told_call(asked: &Asked) -> Told<Call>
+    ensures { result.items ≡ call_of asked.now ∷ [] }
+{
+    named_call::<Brand>(asked)
+}
+
+fn named_entries<N: Names<Entry>>(caller: u64, call: &Told<Call>, did: Option<Did>) -> Told<Entry>
+    requires { N.named ≡ entries_of caller call.now.items did }
+    ensures { result.items ≡ entries_of caller call.now.items did }
+{
+    Told::list::<N>()
+}
+
+/// The entry of a call that went so, and none where it is in no history.
+pub(crate) fn told_entries(caller: u64, call: &Told<Call>, did: Option<Did>) -> Told<Entry>
+    ensures { result.items ≡ entries_of caller call.now.items did }
+{
+    named_entries::<Brand>(caller, call, did)
+}
+
+/// How a call went in which the disk failed.
+fn failed_by(why: &Refused) -> Option<Did>
+    ensures { result ≡ failed_by why.now }
+{
+    match why {
+        Refused::Fault { before, after, .. } => Some(Did::Failed {
+            before: *before,
+            after: *after,
+        }),
+        _ => None,
+    }
+}
+
+/// How a change went, and None where it is in no history.
+pub(crate) fn did_of(answer: &Result<u64, Refused>) -> Option<Did>
+    ensures { (call : calls.Call) → result ≡ did_by (Makes call) (result_err answer.now) }
+{
+    match answer {
+        Ok(_) => Some(Did::Done),
+        Err(why) => failed_by(why),
+    }
+}
+
+/// How many entries that is.
+pub(crate) fn number_of(did: Option<Did>) -> u64
+    ensures { (caller : ℕ) (call : calls.Call) → length (entries_of caller (call ∷ []) did) ≡ result }
+{
+    match did {
+        None => 0,
+        Some(_) => 1,
+    }
+}
