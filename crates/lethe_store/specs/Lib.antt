@@ -5,3 +5,4 @@ pub mod Since
 pub mod Laws
 pub mod Reads
 pub mod Reasons
+pub mod Ports

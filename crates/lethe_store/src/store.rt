@@ -177,7 +177,8 @@ impl<D: Disk, L: Log> Store<D, L> {
     pub fn finish<R: Wait>(self, rt: &R, session: Session<D, L>) -> Engine<D>
         requires of { session.seat.table_id ≡ self.turn.table.shared.table_id }
         requires ready { IsReady L.start (λ o. desk_of o.engine) session.seat.me }
-        ensures { HasFinished (λ o. desk_of o.engine) (L.since D.tells D.ports_fail) L.fits session.seat.me.0 (desk_of result) }
+        ensures sound { IsSound D.tells (view_of result.core) }
+        ensures finished { HasFinished (λ o. desk_of o.engine) (L.since D.tells D.ports_fail) L.fits session.seat.me.0 (desk_of result) }
     {
         let Store { turn } = self;
         let Session {
