@@ -2,11 +2,9 @@
 ghost use Rattle.std.specs.Prelude.{◌<◌, length};
 
 use lethe_images::Dice;
-use lethe_memdisk::MemDisk;
-use lethe_rows::{Left, SMALL, run_over};
+use lethe_test_values::SMALL_WORDS;
 use std::alloc::Global;
 use std::collections::BTreeMap;
-use std::str;
 use std::test::Fail;
 
 /// The letters of the keys.
@@ -20,7 +18,7 @@ pub const READ_AND_PUT: &str = "1 scan a g\n1 put a 9 more\n1 get a\n";
 
 // The words of a small configuration: few entries make a file, and few files a full level.
 fn words_of(alloc: Global, dice: &mut Dice) -> Result<Vec<&'static str>, Fail> {
-    let mut words = SMALL;
+    let mut words = SMALL_WORDS;
     let page = dice.one_of(&["1", "2"]);
     let tile = dice.one_of(&["1", "2"]);
     words[4] = dice.one_of(&["2", "3", "4", "5"]);
@@ -314,8 +312,8 @@ enum Kind {
 /// A script for a small configuration.
 #[derive(Drop)]
 pub struct Generated {
-    seed: u64,
-    words: Vec<&'static str>,
+    /// The words of its configuration.
+    pub words: Vec<&'static str>,
     /// Its lines, ten by ten.
     pub parts: Vec<Lines>,
     // What a scan of all keys prints behind no change, behind the first, and so on.
@@ -342,7 +340,6 @@ impl Generated {
     fn with(alloc: Global, seed: u64, parts: usize, kind: Kind) -> Result<Generated, Fail> {
         let mut dice = Dice::new(seed);
         let mut made = Generated {
-            seed,
             words: words_of(alloc, &mut dice)?,
             parts: Vec::new(alloc),
             scans: Vec::new(alloc),
@@ -409,15 +406,6 @@ impl Generated {
         Ok(())
     }
 
-    /// The whole script.
-    pub fn whole(&self, alloc: Global) -> Result<Lines, Fail> {
-        let mut whole = Lines::new(alloc);
-        for lines in &self.parts {
-            whole.add(&lines.script, &lines.text)?;
-        }
-        Ok(whole)
-    }
-
     /// What is printed of `READ_AND_PUT` behind so many of its changes.
     pub fn behind(&self, alloc: Global, kept: usize) -> Result<Option<String>, Fail> {
         let Some(scan) = self.scans.get(kept) else {
@@ -426,22 +414,5 @@ impl Generated {
         let next = kept.saturating_add(1);
         let text = format!(in alloc; "{scan}1 ok {next}\n1 at {next} val 9 more\n")?;
         Ok(Some(text))
-    }
-
-    /// Runs a script with its configuration. Nothing of the source and the sink fails.
-    pub fn run(&self, alloc: Global, script: &str, disk: MemDisk) -> Result<Left, Fail> {
-        run_over(alloc, &self.words, script.as_bytes(), &[], &[], disk)
-    }
-
-    /// Runs lines of it, which print what the map gives, and hands the disk back.
-    pub fn answered(&self, alloc: Global, lines: &Lines, disk: MemDisk) -> Result<MemDisk, Fail> {
-        let left = self.run(alloc, &lines.script, disk)?;
-        let printed = left.printed;
-        if printed.status != 0 || printed.text.as_slice() != lines.text.as_bytes() {
-            let seed = self.seed;
-            let text = str::from_utf8(&printed.text)?;
-            return Err(Fail::new(format_args!("seed {seed}: {text}")));
-        }
-        Ok(left.disk)
     }
 }

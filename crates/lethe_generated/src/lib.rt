@@ -1,4 +1,4 @@
-//! Scripts that are made from a seed, for tests: what a plain map prints for them, and runs of them.
+//! Scripts that are made from a seed, for tests, and what a plain map prints for them.
 #![tactic(auto)]
 
 mod generated;

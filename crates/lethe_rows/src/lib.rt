@@ -1,10 +1,9 @@
-//! What the tests of scripts share: a run over memory, small configurations, and texts.
+//! What the tests of scripts share: a run over memory, and texts.
 #![tactic(auto)]
 
 mod run;
-mod small;
 mod texts;
 
-pub use run::{Left, Printed, answered, answered_for, must_print, run_of, run_on, run_over};
-pub use small::{SMALL, answered_small, open_small};
+pub use lethe_test_values::SMALL_WORDS;
+pub use run::{Left, Printed, run_of, run_on, run_over};
 pub use texts::{bytes_of, count_lines, done_lines, filled, repeated, text_of};

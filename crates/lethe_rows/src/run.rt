@@ -47,11 +47,6 @@ pub fn run_of(
     Ok(left.printed)
 }
 
-/// Runs a script with the default configuration over an empty disk. It ends with this status and prints this.
-pub fn must_print(alloc: Global, script: &[u8], status: u8, text: &str) -> Result<(), Fail> {
-    run_of(alloc, &["run"], script, &[], &[])?.must_be(status, text)
-}
-
 /// Runs the words over a script and this disk. The reads and writes with these numbers fail.
 pub fn run_over(
     alloc: Global,
@@ -86,29 +81,4 @@ pub fn run_on<D: Disk>(
         text: sink.bytes().to_vec(alloc)?,
     };
     Ok((printed, ended.disk))
-}
-
-/// Runs a script that ends with this status and prints this, and hands the disk back. Nothing of the source and the sink fails.
-pub fn answered_for(
-    alloc: Global,
-    words: &[&str],
-    script: &str,
-    disk: MemDisk,
-    status: u8,
-    text: &str,
-) -> Result<MemDisk, Fail> {
-    let left = run_over(alloc, words, script.as_bytes(), &[], &[], disk)?;
-    left.printed.must_be(status, text)?;
-    Ok(left.disk)
-}
-
-/// The same with the default configuration.
-pub fn answered(
-    alloc: Global,
-    script: &str,
-    disk: MemDisk,
-    status: u8,
-    text: &str,
-) -> Result<MemDisk, Fail> {
-    answered_for(alloc, &["run"], script, disk, status, text)
 }

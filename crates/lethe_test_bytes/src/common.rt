@@ -1,29 +1,13 @@
 //! What the tests of several libraries share.
 
-use lethe_base::{Config, Fields, Key, Pick};
+use lethe_base::{Config, Fields, Pick};
+use lethe_test_values::SMALL;
 use std::alloc::Global;
 use std::process::Abort;
-
-/// Threshold 100, ratio 2, levels 2, page 2, tile 2, file 2, buffer 4.
-pub(crate) const SMALL: Fields = Fields {
-    threshold: 100,
-    ratio: 2,
-    levels: 2,
-    page: 2,
-    tile: 2,
-    file: 2,
-    buffer: 4,
-    pick: Pick::Sd,
-};
 
 /// The small configuration with this pick.
 pub(crate) fn small(rt: &impl Abort, pick: Pick) -> Config {
     Config::new(Fields { pick, ..SMALL }).expect(rt, "a configuration")
-}
-
-pub(crate) fn key_of(alloc: Global, rt: &impl Abort, text: &str) -> Key {
-    let bytes = text.as_bytes().to_vec(alloc).expect(rt, "memory");
-    Key::new(bytes).expect(rt, "a key")
 }
 
 /// The bytes with another byte at a place.

@@ -2,11 +2,12 @@
 ghost use Rattle.std.specs.Prelude.{IfOk};
 ghost use Rattle.lethe_manifest.specs.Manifests.{HasSpelling};
 
-use crate::common::{SMALL, changed, check_bytes, cut, extended, replaced, small};
+use crate::common::{changed, check_bytes, cut, extended, replaced, small};
 use lethe_base::{Config, Fields, List, Pending, Pick};
 use lethe_manifest::{
     Cited, LastCert, Manifest, ManifestRefused, one_manifest, read_manifest, write_manifest,
 };
+use lethe_test_values::SMALL;
 use std::alloc::Global;
 use std::process::Abort;
 

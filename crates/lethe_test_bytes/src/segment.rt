@@ -2,12 +2,13 @@
 ghost use Rattle.lethe_base.specs.Erases.{IsErase};
 ghost use Rattle.lethe_segment.specs.Records.{RecordHasSpelling};
 
-use crate::common::{changed, check_bytes, cut, key_of};
+use crate::common::{changed, check_bytes, cut};
 use lethe_base::{Body, Entry, Pending, Range, Value};
 use lethe_segment::{
     Record, SegmentRefused, ascending_places, new_segment, one_record, one_segment, replay,
     segment_number, spelling_holds, write_record, write_segment,
 };
+use lethe_test_values::key_of;
 use std::alloc::Global;
 use std::process::Abort;
 
@@ -25,7 +26,7 @@ fn written(alloc: Global, rt: &impl Abort, record: &Record) -> Vec<u8>
 fn put(alloc: Global, rt: &impl Abort) -> Vec<u8> {
     let bytes = b"x".to_vec(alloc).expect(rt, "memory");
     let value = Value::new(bytes).expect(rt, "a value");
-    let key = key_of(alloc, rt, "a");
+    let key = key_of(alloc, "a").expect(rt, "a key");
     let record = Record::Entry(Entry {
         seq: 1,
         key,
@@ -39,7 +40,7 @@ fn put(alloc: Global, rt: &impl Abort) -> Vec<u8> {
 fn tomb(alloc: Global, rt: &impl Abort) -> Vec<u8> {
     let record = Record::Entry(Entry {
         seq: 2,
-        key: key_of(alloc, rt, "a"),
+        key: key_of(alloc, "a").expect(rt, "a key"),
         body: Body::Tomb,
         since: Some(0),
     });

@@ -1,7 +1,8 @@
 //! Tests of the weaving of entries into tiles, and of the filters of keys.
 
-use crate::common::{key_of, small};
+use crate::common::small;
 use lethe_base::{Body, Entry, Key, Pick, Value};
+use lethe_test_values::key_of;
 use lethe_tile::{Filter, Tile, is_ascending, weave};
 use std::alloc::Global;
 use std::process::Abort;
@@ -22,7 +23,7 @@ fn entry_of(alloc: Global, rt: &impl Abort, word: &str) -> Entry {
     };
     Entry {
         seq: 1,
-        key: key_of(alloc, rt, key),
+        key: key_of(alloc, key).expect(rt, "a key"),
         body,
         since,
     }
@@ -136,7 +137,8 @@ const PLACES: &[(&str, usize, usize, &[usize])] = &[
 fn filter_of_copies(alloc: Global, rt: &impl Abort, text: &str, copies: usize) -> Filter {
     let mut keys = Vec::new(alloc);
     for _ in 0..copies {
-        keys.push(key_of(alloc, rt, text)).expect(rt, "memory");
+        keys.push(key_of(alloc, text).expect(rt, "a key"))
+            .expect(rt, "memory");
     }
     filter_of(alloc, rt, &keys)
 }
@@ -174,7 +176,8 @@ const TEXTS: &[&str] = &["a", "b", "key", "another", "ab", "ba", "z"];
 fn keys_of(alloc: Global, rt: &impl Abort, texts: &[&str]) -> Vec<Key> {
     let mut keys = Vec::new(alloc);
     for text in texts {
-        keys.push(key_of(alloc, rt, text)).expect(rt, "memory");
+        keys.push(key_of(alloc, text).expect(rt, "a key"))
+            .expect(rt, "memory");
     }
     keys
 }
@@ -192,7 +195,7 @@ fn filter_of_zeros(alloc: Global, rt: &impl Abort) -> Filter {
 }
 
 fn check_one_key(alloc: Global, rt: &impl Abort) {
-    let key = key_of(alloc, rt, "a");
+    let key = key_of(alloc, "a").expect(rt, "a key");
     let filter = filter_of_copies(alloc, rt, "a", 1);
     assert!(rt; filter.words() == [0x0008_0040_0200_3001].as_slice());
     assert!(rt; filter.may_hold(&key));

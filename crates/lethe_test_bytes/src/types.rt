@@ -1,10 +1,10 @@
 //! Tests of the types that all of Lethe shares, and of the limits of a configuration.
 
-use crate::common::{SMALL, key_of};
 use lethe_base::{
     Body, Config, ConfigRefused, Entry, Field, Fields, Key, KeyRefused, Pick, Range, Value,
     ValueRefused,
 };
+use lethe_test_values::{SMALL, key_of};
 use std::alloc::Global;
 use std::process::Abort;
 
@@ -25,7 +25,7 @@ fn copy_of_put(alloc: Global, rt: &impl Abort) -> Entry {
     let value = Value::new(Vec::new(alloc)).expect(rt, "a value");
     let entry = Entry {
         seq: 1,
-        key: key_of(alloc, rt, "a"),
+        key: key_of(alloc, "a").expect(rt, "a key"),
         body: Body::Put { dkey: 5, value },
         since: Some(3),
     };
@@ -33,8 +33,8 @@ fn copy_of_put(alloc: Global, rt: &impl Abort) -> Entry {
 }
 
 fn check_keys(alloc: Global, rt: &impl Abort) {
-    let key = key_of(alloc, rt, "a");
-    let other = key_of(alloc, rt, "ab");
+    let key = key_of(alloc, "a").expect(rt, "a key");
+    let other = key_of(alloc, "ab").expect(rt, "a key");
     assert!(rt; key.copy().expect(rt, "memory").bytes() == b"a".as_slice());
     assert!(rt; key < other && key != other);
 }

@@ -1,13 +1,14 @@
 //! Runs over a disk: what they leave on it, and what a crash leaves of that.
 
+use crate::common::{answered, check_printed, empty_disk, failing_disk, must, run};
 use lethe_base::{Config, Fields};
-use lethe_images::{IMAGES, crashed, disk_of};
+use lethe_images::{IMAGES, crashed};
 use lethe_load::load;
 use lethe_memdisk::MemDisk;
-use lethe_rows::{Left, answered, run_over};
+use lethe_rows::{Left, run_over};
 use lethe_segment::Record;
 use std::alloc::Global;
-use std::test::Fail;
+use std::process::Abort;
 
 /// How many device calls it takes to open the store of an empty disk.
 const OPENING: u64 = 12;
@@ -19,26 +20,27 @@ const NONE: &str = "1 at 0 none\n";
 
 const HELD: &str = "1 at 1 val 5 x\n";
 
-// Runs a script over a disk. Nothing of the source and the sink fails.
-fn ran(alloc: Global, script: &str, disk: MemDisk) -> Result<Left, Fail> {
-    run_over(alloc, &["run"], script.as_bytes(), &[], &[], disk)
+// An empty disk that is stopped behind so many calls.
+fn stopped(alloc: Global, rt: &impl Abort, calls: u64) -> MemDisk {
+    let mut disk = empty_disk(alloc, rt);
+    disk.fuse(calls);
+    disk
 }
 
-// An empty disk that is stopped behind so many calls.
-fn stopped(alloc: Global, calls: u64) -> Result<MemDisk, Fail> {
-    let mut disk = disk_of(alloc, &[])?;
-    disk.fuse(calls);
-    Ok(disk)
+// The status of a script over an empty disk that is stopped behind so many calls.
+fn status_of(alloc: Global, rt: &impl Abort, script: &str, calls: u64) -> u8 {
+    let disk = stopped(alloc, rt, calls);
+    run(alloc, rt, &["run"], script, disk).printed.status
 }
 
 // How many device calls the script takes over an empty disk before its status is 0.
-fn calls_of_script(alloc: Global, script: &str) -> Result<u64, Fail> {
+fn calls_of_script(alloc: Global, rt: &impl Abort, script: &str) -> u64 {
     for calls in 0..100 {
-        if ran(alloc, script, stopped(alloc, calls)?)?.printed.status == 0 {
-            return Ok(calls);
+        if status_of(alloc, rt, script, calls) == 0 {
+            return calls;
         }
     }
-    Err(Fail::new("too many calls"))
+    panic!(rt; "too many calls")
 }
 
 /// Scripts, and how many device calls they take.
@@ -50,47 +52,49 @@ const CALLS: [(&str, u64); 4] = [
 ];
 
 #[test]
-fn a_put_takes_four_calls(rt: HostRuntime) -> Result<(), Fail> {
+fn a_put_takes_four_calls(rt: HostRuntime) {
     for (script, calls) in CALLS {
-        assert!(rt; calls_of_script(rt.alloc(), script)? == calls, "{script}");
+        assert!(rt;
+            calls_of_script(rt.alloc(), &rt, script) == calls,
+            "{script}"
+        );
     }
-    Ok(())
+}
+
+// What is read of `a` from a disk.
+fn check_read(alloc: Global, rt: &impl Abort, disk: MemDisk, text: &str) {
+    answered(alloc, rt, "1 get a\n", disk, 0, text);
 }
 
 // What is read of `a` from what a crash after so many calls leaves of a disk. A gate byte that wasn't synced may be left
 // as 1, and then the same is read as from the disk that goes on.
-fn reads_crashed(
+fn check_reads_crashed(
     alloc: Global,
+    rt: &impl Abort,
     disk: &mut MemDisk,
     calls: u64,
     kept: &str,
     crashed_to: &str,
-) -> Result<(), Fail> {
+) {
     disk.fuse(1_000);
     for image in IMAGES {
         let text = if image.0 == 1 { kept } else { crashed_to };
-        answered(
-            alloc,
-            "1 get a\n",
-            crashed(alloc, disk, calls, image)?,
-            0,
-            text,
-        )?;
+        let left = must(rt, crashed(alloc, disk, calls, image));
+        check_read(alloc, rt, left, text);
     }
-    Ok(())
 }
 
 // The same, and what is read from the disk that goes on.
-fn reads(
+fn check_reads(
     alloc: Global,
+    rt: &impl Abort,
     mut disk: MemDisk,
     calls: u64,
     kept: &str,
     crashed_to: &str,
-) -> Result<(), Fail> {
-    reads_crashed(alloc, &mut disk, calls, kept, crashed_to)?;
-    answered(alloc, "1 get a\n", disk, 0, kept)?;
-    Ok(())
+) {
+    check_reads_crashed(alloc, rt, &mut disk, calls, kept, crashed_to);
+    check_read(alloc, rt, disk, kept);
 }
 
 // The status of a put over an empty disk that is stopped behind so many calls, and what is printed of it.
@@ -102,64 +106,81 @@ fn put_stopped(calls: u64) -> (u8, &'static str) {
     }
 }
 
-#[test]
-fn a_put_that_is_stopped_counts_from_its_gate_byte_on(rt: HostRuntime) -> Result<(), Fail> {
-    let alloc = rt.alloc();
-    for calls in 0..=OPENING + PUT {
-        let (status, text) = put_stopped(calls);
-        let disk = answered(alloc, "1 put a 5 x\n", stopped(alloc, calls)?, status, text)?;
-        let (kept, crashed_to) = match calls {
-            16 => (HELD, HELD),
-            15 => (HELD, NONE),
-            _ => (NONE, NONE),
-        };
-        reads(alloc, disk, calls, kept, crashed_to)?;
+// What is read behind it of the disk that goes on, and what of those that a crash leaves.
+fn reads_behind(calls: u64) -> (&'static str, &'static str) {
+    match calls {
+        16 => (HELD, HELD),
+        15 => (HELD, NONE),
+        _ => (NONE, NONE),
     }
-    Ok(())
+}
+
+fn check_put_stopped(alloc: Global, rt: &impl Abort, calls: u64) {
+    let (status, text) = put_stopped(calls);
+    let disk = stopped(alloc, rt, calls);
+    let disk = answered(alloc, rt, "1 put a 5 x\n", disk, status, text);
+    let (kept, crashed_to) = reads_behind(calls);
+    check_reads(alloc, rt, disk, calls, kept, crashed_to);
+}
+
+#[test]
+fn a_put_that_is_stopped_counts_from_its_gate_byte_on(rt: HostRuntime) {
+    for calls in 0..=OPENING + PUT {
+        check_put_stopped(rt.alloc(), &rt, calls);
+    }
 }
 
 // Stops the second run over a disk behind so many of its calls. Whether it wasn't done by then.
-fn is_stopped(alloc: Global, calls: u64) -> Result<bool, Fail> {
-    let mut disk = answered(alloc, "1 put a 5 x\n", disk_of(alloc, &[])?, 0, "1 ok 1\n")?;
+fn is_stopped(alloc: Global, rt: &impl Abort, calls: u64) -> bool {
+    let disk = empty_disk(alloc, rt);
+    let mut disk = answered(alloc, rt, "1 put a 5 x\n", disk, 0, "1 ok 1\n");
     disk.fuse(calls);
-    let Left { printed, disk } = ran(alloc, "1 get a\n", disk)?;
+    let Left { printed, disk } = run(alloc, rt, &["run"], "1 get a\n", disk);
     let all = calls.saturating_add(OPENING + PUT);
-    reads(alloc, disk, all, HELD, HELD)?;
-    Ok(printed.status != 0)
+    check_reads(alloc, rt, disk, all, HELD, HELD);
+    printed.status != 0
 }
 
 #[test]
-fn an_opening_that_is_stopped_loses_nothing(rt: HostRuntime) -> Result<(), Fail> {
+fn an_opening_that_is_stopped_loses_nothing(rt: HostRuntime) {
     for calls in 0..100 {
-        if !is_stopped(rt.alloc(), calls)? {
-            return Ok(());
+        if !is_stopped(rt.alloc(), &rt, calls) {
+            return;
         }
     }
-    Err(Fail::new("too many calls"))
+    panic!(rt; "too many calls")
 }
 
-#[test]
-fn a_change_that_fails_stops_the_later_ones(rt: HostRuntime) -> Result<(), Fail> {
-    let alloc = rt.alloc();
+// The call of that number behind an opening fails in two puts and a get, and this is read then.
+fn check_failing(alloc: Global, rt: &impl Abort, call: u64, kept: &str) {
     let script = "1 put a 5 x\n1 put b 6 y\n1 get a\n";
     let text = "1 fault 1 before 0 after 1\n1 stopped 1\n1 at 1 none\n";
-    // The record of the second put is written before the gate of the first one.
-    for (call, kept) in [(1, NONE), (2, NONE), (3, NONE), (4, NONE), (5, HELD)] {
-        let disk = disk_of(alloc, &[OPENING + call])?;
-        let disk = answered(alloc, script, disk, 6, text)?;
-        reads(alloc, disk, OPENING + call, kept, NONE)?;
-    }
-    Ok(())
+    let calls = call.saturating_add(OPENING);
+    let disk = failing_disk(alloc, rt, &[calls]);
+    let disk = answered(alloc, rt, script, disk, 6, text);
+    check_reads(alloc, rt, disk, calls, kept, NONE);
 }
 
 #[test]
-fn a_fault_of_the_sink_undoes_no_change(rt: HostRuntime) -> Result<(), Fail> {
-    let alloc = rt.alloc();
-    let disk = disk_of(alloc, &[])?;
-    let left = run_over(alloc, &["run"], b"1 put a 5 x\n", &[], &[1], disk)?;
-    left.printed.must_be(5, "")?;
-    answered(alloc, "1 get a\n", left.disk, 0, HELD)?;
-    Ok(())
+fn a_change_that_fails_stops_the_later_ones(rt: HostRuntime) {
+    // The record of the second put is written before the gate of the first one.
+    for (call, kept) in [(1, NONE), (2, NONE), (3, NONE), (4, NONE), (5, HELD)] {
+        check_failing(rt.alloc(), &rt, call, kept);
+    }
+}
+
+// The disk behind a put whose line isn't written.
+fn unprinted(alloc: Global, rt: &impl Abort) -> MemDisk {
+    let disk = empty_disk(alloc, rt);
+    let left = run_over(alloc, &["run"], b"1 put a 5 x\n", &[], &[1], disk);
+    let left = must(rt, left);
+    check_printed(rt, &left.printed, 5, "");
+    left.disk
+}
+
+#[test]
+fn a_fault_of_the_sink_undoes_no_change(rt: HostRuntime) {
+    check_read(rt.alloc(), &rt, unprinted(rt.alloc(), &rt), HELD);
 }
 
 /// Scripts one after another, and what is printed of each.
@@ -175,13 +196,11 @@ const RUNS: [(&str, &str); 5] = [
 ];
 
 #[test]
-fn one_run_goes_on_where_another_ended(rt: HostRuntime) -> Result<(), Fail> {
-    let alloc = rt.alloc();
-    let mut disk = disk_of(alloc, &[])?;
+fn one_run_goes_on_where_another_ended(rt: HostRuntime) {
+    let mut disk = empty_disk(rt.alloc(), &rt);
     for (script, text) in RUNS {
-        disk = answered(alloc, script, disk, 0, text)?;
+        disk = answered(rt.alloc(), &rt, script, disk, 0, text);
     }
-    Ok(())
 }
 
 // How many blind deletes, and how many puts and tombstones, are among these.
@@ -198,17 +217,11 @@ fn counts_of(records: &[Record]) -> (usize, usize) {
 }
 
 // How many of them the journal of a disk has.
-fn records_of(alloc: Global, disk: &mut MemDisk) -> Result<(usize, usize), Fail> {
-    let config = Config::new(Fields::default())
-        .ok()
-        .ok_or("a configuration")?;
-    let Ok(read) = load(alloc, disk, &config) else {
-        return Err(Fail::new("a store"));
-    };
-    match read.segments.items().first() {
-        Some(segment) => Ok(counts_of(segment.items())),
-        None => Err(Fail::new("a segment")),
-    }
+fn records_of(alloc: Global, rt: &impl Abort, disk: &mut MemDisk) -> (usize, usize) {
+    let config = Config::new(Fields::default()).expect(rt, "a configuration");
+    let read = load(alloc, disk, &config).expect(rt, "a store");
+    let segment = read.segments.items().first().expect(rt, "a segment");
+    counts_of(segment.items())
 }
 
 /// Scripts, what is printed of each, and how many blind deletes and how many other records it leaves.
@@ -219,12 +232,20 @@ const DELETES: [(&str, &str, (usize, usize)); 4] = [
     ("1 put a 5 x\n1 del b\n", "1 ok 1\n1 ok 2\n", (1, 1)),
 ];
 
+fn check_deletes(
+    alloc: Global,
+    rt: &impl Abort,
+    script: &str,
+    text: &str,
+    records: (usize, usize),
+) {
+    let mut disk = answered(alloc, rt, script, empty_disk(alloc, rt), 0, text);
+    assert!(rt; records_of(alloc, rt, &mut disk) == records, "{script}");
+}
+
 #[test]
-fn a_delete_leaves_a_tombstone_only_where_a_put_is(rt: HostRuntime) -> Result<(), Fail> {
-    let alloc = rt.alloc();
+fn a_delete_leaves_a_tombstone_only_where_a_put_is(rt: HostRuntime) {
     for (script, text, records) in DELETES {
-        let mut disk = answered(alloc, script, disk_of(alloc, &[])?, 0, text)?;
-        assert!(rt; records_of(alloc, &mut disk)? == records, "{script}");
+        check_deletes(rt.alloc(), &rt, script, text, records);
     }
-    Ok(())
 }

@@ -1,13 +1,12 @@
 //! Stores whose buffers are small, so that their entries come into files.
 
+use crate::common::{answered_for, answered_small, check_printed, empty_disk, must, run};
 use lethe_base::{Kind, Name};
-use lethe_images::{IMAGES, crashed, disk_of, names_of, take_away};
+use lethe_images::{IMAGES, crashed, names_of, take_away};
 use lethe_memdisk::{FlakyDisk, MemDisk};
-use lethe_rows::{
-    Left, SMALL, answered_for, answered_small, done_lines, run_on, run_over, text_of,
-};
+use lethe_rows::{Left, SMALL_WORDS, done_lines, run_on, text_of};
 use std::alloc::Global;
-use std::test::Fail;
+use std::process::Abort;
 
 /// Puts of the keys from `a` on, each with the delete key 1 and the value `v`.
 const NINE: &str =
@@ -22,23 +21,17 @@ const MORE: &str = "1 put j 1 v\n1 put k 1 v\n1 put l 1 v\n1 put m 1 v\n";
 /// What is printed of these.
 const MORE_DONE: &str = "1 ok 10\n1 ok 11\n1 ok 12\n1 ok 13\n";
 
-// Runs a script with the small configuration.
-fn ran(alloc: Global, script: &str, disk: MemDisk) -> Result<Left, Fail> {
-    run_over(alloc, &SMALL, script.as_bytes(), &[], &[], disk)
-}
-
 // Runs the nine puts and this over an empty disk. All of it is answered.
-fn behind_nine(alloc: Global, script: &str, text: &str) -> Result<MemDisk, Fail> {
-    let script = text_of(alloc, &[NINE, script])?;
-    let text = text_of(alloc, &[NINE_DONE, text])?;
-    answered_small(alloc, &script, disk_of(alloc, &[])?, 0, &text)
+fn behind_nine(alloc: Global, rt: &impl Abort, script: &str, text: &str) -> MemDisk {
+    let script = must(rt, text_of(alloc, &[NINE, script]));
+    let text = must(rt, text_of(alloc, &[NINE_DONE, text]));
+    answered_small(alloc, rt, &script, empty_disk(alloc, rt), 0, &text)
 }
 
 #[test]
-fn a_full_buffer_is_frozen_and_the_next_one_flushes_it(rt: HostRuntime) -> Result<(), Fail> {
+fn a_full_buffer_is_frozen_and_the_next_one_flushes_it(rt: HostRuntime) {
     let text = "1 at 9 stat clock 0 pins 0 pending 0 files 1 tombs 0\n";
-    behind_nine(rt.alloc(), "1 stat\n", text)?;
-    Ok(())
+    behind_nine(rt.alloc(), &rt, "1 stat\n", text);
 }
 
 /// Reads and changes: of `a` there is a file, of `e` the frozen buffer, of `i` the active one.
@@ -55,27 +48,26 @@ const OPENED: &str =
     "1 at 12 stat clock 0 pins 0 pending 0 files 3 tombs 1\n1 at 12 none\n1 at 12 scan 8 b 1 v c 1 v d 1 v e 2 w f 1 v g 1 v h 1 v i 1 v\n";
 
 #[test]
-fn reads_see_files_and_both_buffers(rt: HostRuntime) -> Result<(), Fail> {
+fn reads_see_files_and_both_buffers(rt: HostRuntime) {
     let alloc = rt.alloc();
-    let disk = behind_nine(alloc, READS, ANSWERS)?;
-    let disk = answered_small(alloc, "1 stat\n1 get a\n1 scan a z\n", disk, 0, OPENED)?;
+    let disk = behind_nine(alloc, &rt, READS, ANSWERS);
+    let disk = answered_small(alloc, &rt, "1 stat\n1 get a\n1 scan a z\n", disk, 0, OPENED);
     let script = "1 put a 3 x\n1 get a\n1 del y\n1 stat\n";
     let text =
         "1 ok 13\n1 at 13 val 3 x\n1 ok 14\n1 at 14 stat clock 0 pins 0 pending 0 files 3 tombs 1\n";
-    answered_small(alloc, script, disk, 0, text)?;
-    Ok(())
+    answered_small(alloc, &rt, script, disk, 0, text);
 }
 
 // The nine puts and four more: their files are 7, of the pages 5 and 6, and 13, of the pages 11 and 12.
-fn two_files(alloc: Global) -> Result<MemDisk, Fail> {
-    behind_nine(alloc, MORE, MORE_DONE)
+fn two_files(alloc: Global, rt: &impl Abort) -> MemDisk {
+    behind_nine(alloc, rt, MORE, MORE_DONE)
 }
 
 // The same, but page 12.
-fn without_page(alloc: Global) -> Result<MemDisk, Fail> {
-    let mut disk = two_files(alloc)?;
-    take_away(alloc, &mut disk, Kind::Page, 12)?;
-    Ok(disk)
+fn without_page(alloc: Global, rt: &impl Abort) -> MemDisk {
+    let mut disk = two_files(alloc, rt);
+    must(rt, take_away(alloc, &mut disk, Kind::Page, 12));
+    disk
 }
 
 /// What is told where a store of the small configuration is opened with another ratio.
@@ -83,25 +75,25 @@ const OTHER: &str =
     "other config kept threshold=100 ratio=2 levels=2 page=2 tile=2 file=2 buffer=4 pick=so asked threshold=100 ratio=3 levels=2 page=2 tile=2 file=2 buffer=4 pick=so\n";
 
 // Opens that store, which is told to be damaged, and to be of another configuration where another is asked for.
-fn refused(alloc: Global, disk: MemDisk) -> Result<MemDisk, Fail> {
-    let disk = answered_small(alloc, "1 get a\n", disk, 8, "damaged page 12\n")?;
-    let mut other = SMALL;
+fn refused(alloc: Global, rt: &impl Abort, disk: MemDisk) -> MemDisk {
+    let disk = answered_small(alloc, rt, "1 get a\n", disk, 8, "damaged page 12\n");
+    let mut other = SMALL_WORDS;
     other[14] = "3";
-    answered_for(alloc, &other, "1 get a\n", disk, 9, OTHER)
+    answered_for(alloc, rt, &other, "1 get a\n", disk, 9, OTHER)
 }
 
-// The names of what is there then.
-fn names_behind(alloc: Global, disk: MemDisk) -> Result<Vec<Name>, Fail> {
-    names_of(alloc, &mut refused(alloc, disk)?)
+// The names of what is there.
+fn names_on(alloc: Global, rt: &impl Abort, disk: &mut MemDisk) -> Vec<Name> {
+    must(rt, names_of(alloc, disk))
 }
 
 #[test]
-fn a_store_that_lacks_a_page_is_told_and_stays(rt: HostRuntime) -> Result<(), Fail> {
+fn a_store_that_lacks_a_page_is_told_and_stays(rt: HostRuntime) {
     let alloc = rt.alloc();
-    let mut disk = without_page(alloc)?;
-    let before = names_of(alloc, &mut disk)?;
-    assert!(rt; names_behind(alloc, disk)? == before);
-    Ok(())
+    let mut disk = without_page(alloc, &rt);
+    let before = names_on(alloc, &rt, &mut disk);
+    let mut disk = refused(alloc, &rt, disk);
+    assert!(rt; names_on(alloc, &rt, &mut disk) == before);
 }
 
 /// Objects of a store of two files, and what is told where they were changed.
@@ -116,43 +108,49 @@ const CHANGED: [(Kind, u64, &str); 7] = [
 ];
 
 // The store of two files, with other bytes in an object.
-fn changed(alloc: Global, name: Name, bytes: &[u8]) -> Result<MemDisk, Fail> {
-    let bytes = bytes.to_vec(alloc)?;
-    let mut disk = two_files(alloc)?;
-    if disk.swap(name, bytes) {
-        Ok(disk)
-    } else {
-        Err(Fail::new("an object"))
-    }
+fn changed(alloc: Global, rt: &impl Abort, name: Name, bytes: &[u8]) -> MemDisk {
+    let bytes = bytes.to_vec(alloc).expect(rt, "memory");
+    let mut disk = two_files(alloc, rt);
+    assert!(rt; disk.swap(name, bytes));
+    disk
 }
 
 // That store isn't opened.
-fn is_told(alloc: Global, name: Name, bytes: &[u8], text: &str) -> Result<(), Fail> {
-    let disk = changed(alloc, name, bytes)?;
-    let disk = answered_small(alloc, "1 put z 1 z\n", disk, 8, text)?;
-    answered_small(alloc, "1 get a\n", disk, 8, text)?;
-    Ok(())
+fn check_told(alloc: Global, rt: &impl Abort, name: Name, bytes: &[u8], text: &str) {
+    let disk = changed(alloc, rt, name, bytes);
+    let disk = answered_small(alloc, rt, "1 put z 1 z\n", disk, 8, text);
+    answered_small(alloc, rt, "1 get a\n", disk, 8, text);
 }
 
 #[test]
-fn an_object_that_was_changed_is_told(rt: HostRuntime) -> Result<(), Fail> {
+fn an_object_that_was_changed_is_told(rt: HostRuntime) {
     let alloc = rt.alloc();
     for (kind, no, text) in CHANGED {
-        is_told(alloc, Name { kind, no }, b"", text)?;
-        is_told(alloc, Name { kind, no }, b"LP\x01\x01\0\0\0\x01", text)?;
+        check_told(alloc, &rt, Name { kind, no }, b"", text);
+        check_told(alloc, &rt, Name { kind, no }, b"LP\x01\x01\0\0\0\x01", text);
     }
     let text = "1 at 13 scan 2 a 1 v b 1 v\n";
-    answered_small(alloc, "1 scan a c\n", two_files(alloc)?, 0, text)?;
-    Ok(())
+    answered_small(alloc, &rt, "1 scan a c\n", two_files(alloc, &rt), 0, text);
+}
+
+// The store of the nine puts, whose first fetch fails.
+fn flaky(alloc: Global, rt: &impl Abort) -> FlakyDisk {
+    let failing = vec![in alloc; 1].expect(rt, "memory");
+    FlakyDisk::new(behind_nine(alloc, rt, "", ""), failing)
+}
+
+// Runs a script over such a disk, which has to end and print so.
+fn check_flaky(alloc: Global, rt: &impl Abort, script: &[u8], status: u8, text: &str) {
+    let ran = run_on(alloc, &SMALL_WORDS, script, &[], &[], flaky(alloc, rt));
+    let (printed, _) = must(rt, ran);
+    check_printed(rt, &printed, status, text);
 }
 
 #[test]
-fn a_fetch_that_fails_is_told_and_may_be_tried_again(rt: HostRuntime) -> Result<(), Fail> {
-    let alloc = rt.alloc();
-    let disk = FlakyDisk::new(behind_nine(alloc, "", "")?, vec![in alloc; 1]?);
+fn a_fetch_that_fails_is_told_and_may_be_tried_again(rt: HostRuntime) {
     let script = b"1 get a\n1 get a\n1 put j 2 w\n";
-    let (printed, _) = run_on(alloc, &SMALL, script, &[], &[], disk)?;
-    printed.must_be(6, "1 readfault\n1 at 9 val 1 v\n1 ok 10\n")
+    let text = "1 readfault\n1 at 9 val 1 v\n1 ok 10\n";
+    check_flaky(rt.alloc(), &rt, script, 6, text);
 }
 
 /// What a scan prints, for each number of the nine puts.
@@ -169,61 +167,51 @@ const FRONTS: [&str; 10] = [
     "1 at 9 scan 9 a 1 v b 1 v c 1 v d 1 v e 1 v f 1 v g 1 v h 1 v i 1 v\n",
 ];
 
-// How many of the nine puts the store of a disk has, if it has the first ones alone.
-fn front_of(alloc: Global, disk: MemDisk) -> Result<Option<usize>, Fail> {
-    let printed = ran(alloc, "1 scan a z\n", disk)?.printed;
-    if printed.status != 0 {
-        return Err(Fail::new("a store"));
-    }
-    let printed = printed.text.as_slice();
-    Ok(FRONTS.iter().position(|text| printed == text.as_bytes()))
+// How many of the nine puts the store of a disk has, which has the first ones alone.
+fn front_of(alloc: Global, rt: &impl Abort, disk: MemDisk) -> usize {
+    let printed = run(alloc, rt, &SMALL_WORDS, "1 scan a z\n", disk).printed;
+    assert!(rt; printed.status == 0);
+    let text = printed.text.as_slice();
+    let front = FRONTS.iter().position(|front| text == front.as_bytes());
+    front.expect(rt, "a front")
 }
 
-// Fails where the store of a disk has other puts than so many, or one more.
-fn has_kept(alloc: Global, disk: MemDisk, done: usize) -> Result<(), Fail> {
-    let kept = front_of(alloc, disk)?.ok_or("a front")?;
-    if kept == done || kept == done.saturating_add(1) {
-        return Ok(());
-    }
-    Err(Fail::new("other puts"))
+// The store of a disk has to have so many puts, or one more.
+fn check_kept(alloc: Global, rt: &impl Abort, disk: MemDisk, done: usize) {
+    let kept = front_of(alloc, rt, disk);
+    assert!(rt; kept == done || kept == done.saturating_add(1));
 }
 
-// The same of the disks that a crash may leave of this, behind so many of its calls.
-fn images_have_kept(
-    alloc: Global,
-    disk: &mut MemDisk,
-    calls: u64,
-    done: usize,
-) -> Result<(), Fail> {
+// The same of the disks that a crash may leave of this, behind so many of its calls, and of the disk itself.
+fn check_all_kept(alloc: Global, rt: &impl Abort, mut disk: MemDisk, calls: u64, done: usize) {
     disk.fuse(1_000);
     for image in IMAGES {
-        has_kept(alloc, crashed(alloc, disk, calls, image)?, done)?;
+        let left = must(rt, crashed(alloc, &mut disk, calls, image));
+        check_kept(alloc, rt, left, done);
     }
-    Ok(())
-}
-
-// The same of those, and of the disk itself.
-fn have_kept(alloc: Global, mut disk: MemDisk, calls: u64, done: usize) -> Result<(), Fail> {
-    images_have_kept(alloc, &mut disk, calls, done)?;
-    has_kept(alloc, disk, done)
+    check_kept(alloc, rt, disk, done);
 }
 
 // Stops the nine puts behind so many device calls. Whether they weren't done by then.
-fn is_stopped(alloc: Global, calls: u64) -> Result<bool, Fail> {
-    let mut disk = disk_of(alloc, &[])?;
+fn is_stopped(alloc: Global, rt: &impl Abort, calls: u64) -> bool {
+    let mut disk = empty_disk(alloc, rt);
     disk.fuse(calls);
-    let Left { printed, disk } = ran(alloc, NINE, disk)?;
-    have_kept(alloc, disk, calls, done_lines(&printed.text))?;
-    Ok(printed.status != 0)
+    let Left { printed, disk } = run(alloc, rt, &SMALL_WORDS, NINE, disk);
+    check_all_kept(alloc, rt, disk, calls, done_lines(&printed.text));
+    printed.status != 0
+}
+
+// Stops them behind each number of device calls that they take, and counts these.
+fn stop_at_each(alloc: Global, rt: &impl Abort) -> u64 {
+    for calls in 0..200 {
+        if !is_stopped(alloc, rt, calls) {
+            return calls;
+        }
+    }
+    panic!(rt; "too many calls")
 }
 
 #[test]
-fn a_store_that_is_stopped_loses_nothing_that_was_answered(rt: HostRuntime) -> Result<(), Fail> {
-    for calls in 0..200 {
-        if !is_stopped(rt.alloc(), calls)? {
-            assert!(rt; calls > 60);
-            return Ok(());
-        }
-    }
-    Err(Fail::new("too many calls"))
+fn a_store_that_is_stopped_loses_nothing_that_was_answered(rt: HostRuntime) {
+    assert!(rt; stop_at_each(rt.alloc(), &rt) > 60);
 }

@@ -1,10 +1,11 @@
 //! Changes one behind another: a script of five that is stopped at each device call.
 
-use lethe_images::{IMAGES, image_of, roomy_disk, take_calls};
+use crate::common::{must, run, stopped_disk};
+use lethe_images::{IMAGES, image_of, take_calls};
 use lethe_memdisk::MemDisk;
-use lethe_rows::{Left, SMALL, done_lines, run_over};
+use lethe_rows::{Left, SMALL_WORDS, done_lines};
 use std::alloc::Global;
-use std::test::Fail;
+use std::process::Abort;
 
 /// Five changes, of which a buffer of three records has the first three.
 const FIVE: &str = "1 put a 1 v\n1 put b 2 w\n1 del a\n1 erase 2 3\n1 put c 4 x\n";
@@ -36,37 +37,32 @@ const OPENING: u64 = 12;
 const ROWS: u64 = 17;
 
 // Runs a script with a buffer of three records.
-fn ran(alloc: Global, script: &str, disk: MemDisk) -> Result<Left, Fail> {
-    let mut words = SMALL;
+fn ran(alloc: Global, rt: &impl Abort, script: &str, disk: MemDisk) -> Left {
+    let mut words = SMALL_WORDS;
     words[12] = "3";
-    run_over(alloc, &words, script.as_bytes(), &[], &[], disk)
+    run(alloc, rt, &words, script, disk)
 }
 
-// Whether the store of a disk has exactly the first so many of the five changes, or one more.
-fn has_front(alloc: Global, disk: MemDisk, done: usize) -> Result<bool, Fail> {
-    let printed = ran(alloc, "1 scan a z\n", disk)?.printed;
-    for front in BEHIND.iter().skip(done).take(2) {
-        if printed.text.as_slice() == front.as_bytes() {
-            return Ok(true);
-        }
-    }
-    Ok(false)
+// Whether that is printed of exactly the first so many of the five changes, or one more.
+fn is_front(text: &[u8], done: usize) -> bool {
+    let mut fronts = BEHIND.iter().skip(done).take(2);
+    fronts.any(|front| text == front.as_bytes())
 }
 
-// Fails where one of the disks that a crash may leave of this, behind so many of its calls, or the disk itself has another map.
-fn have_fronts(alloc: Global, mut disk: MemDisk, calls: u64, done: usize) -> Result<(), Fail> {
+// The store of a disk has to have exactly the first so many of the five changes, or one more.
+fn check_front(alloc: Global, rt: &impl Abort, disk: MemDisk, done: usize) {
+    let printed = ran(alloc, rt, "1 scan a z\n", disk).printed;
+    assert!(rt; is_front(&printed.text, done), "behind {done} changes");
+}
+
+// The same of the disks that a crash may leave of this, behind so many of its calls, and of the disk itself.
+fn check_fronts(alloc: Global, rt: &impl Abort, mut disk: MemDisk, calls: u64, done: usize) {
     disk.fuse(20_000);
-    take_calls(alloc, &mut disk, calls)?;
+    must(rt, take_calls(alloc, &mut disk, calls));
     for image in IMAGES {
-        if !has_front(alloc, image_of(&disk, calls, image)?, done)? {
-            return Err(Fail::new(format_args!("an image behind {calls} calls")));
-        }
+        check_front(alloc, rt, must(rt, image_of(&disk, calls, image)), done);
     }
-    if has_front(alloc, disk, done)? {
-        Ok(())
-    } else {
-        Err(Fail::new(format_args!("the disk behind {calls} calls")))
-    }
+    check_front(alloc, rt, disk, done);
 }
 
 // What is printed where the disk is stopped behind so many calls, of which so many changes were done.
@@ -81,26 +77,29 @@ fn is_printed(calls: u64, done: usize, text: &[u8]) -> bool {
 }
 
 // Stops the five behind so many device calls. Whether they weren't done by then.
-fn is_stopped(alloc: Global, calls: u64) -> Result<bool, Fail> {
-    let mut disk = roomy_disk(alloc)?;
-    disk.fuse(calls);
-    let Left { printed, disk } = ran(alloc, FIVE, disk)?;
+fn is_stopped(alloc: Global, rt: &impl Abort, calls: u64) -> bool {
+    let disk = stopped_disk(alloc, rt, calls);
+    let Left { printed, disk } = ran(alloc, rt, FIVE, disk);
     let done = done_lines(&printed.text);
-    if !is_printed(calls, done, &printed.text) {
-        return Err(Fail::new(format_args!("behind {calls} calls other lines")));
+    assert!(rt;
+        is_printed(calls, done, &printed.text),
+        "behind {calls} calls other lines"
+    );
+    check_fronts(alloc, rt, disk, calls, done);
+    printed.status != 0
+}
+
+// Stops the five behind each number of device calls that they take, and counts these.
+fn stop_at_each(alloc: Global, rt: &impl Abort) -> u64 {
+    for calls in 0..200 {
+        if !is_stopped(alloc, rt, calls) {
+            return calls;
+        }
     }
-    have_fronts(alloc, disk, calls, done)?;
-    Ok(printed.status != 0)
+    panic!(rt; "too many calls")
 }
 
 #[test]
-fn a_row_that_is_stopped_has_what_was_answered(rt: HostRuntime) -> Result<(), Fail> {
-    let alloc = rt.alloc();
-    for calls in 0..200 {
-        if !is_stopped(alloc, calls)? {
-            assert!(rt; calls > OPENING + ROWS);
-            return Ok(());
-        }
-    }
-    Err(Fail::new("too many calls"))
+fn a_row_that_is_stopped_has_what_was_answered(rt: HostRuntime) {
+    assert!(rt; stop_at_each(rt.alloc(), &rt) > OPENING + ROWS);
 }

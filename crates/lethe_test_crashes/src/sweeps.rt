@@ -1,10 +1,11 @@
 //! Scripts that sweep files in a tick and to make room, stopped and crashed at each device call.
 
-use lethe_images::{IMAGES, image_of, objects_of, roomy_disk, take_calls};
+use crate::common::{must, run, stopped_disk};
+use lethe_images::{IMAGES, image_of, objects_of, take_calls};
 use lethe_memdisk::MemDisk;
-use lethe_rows::{Left, SMALL, done_lines, run_over};
+use lethe_rows::{Left, SMALL_WORDS, done_lines};
 use std::alloc::Global;
-use std::test::Fail;
+use std::process::Abort;
 
 /// A script: puts of the keys from `a` on, the first with the delete key 5 and the value `Elm`, the others with the delete key 1 and the value `x`; then an erase of the delete
 /// key 5, then more such puts, and then a tick.
@@ -47,10 +48,10 @@ const KEYS: [&str; 10] = ["a", "b", "c", "d", "e", "f", "g", "h", "i", "j"];
 
 impl Script {
     /// Runs some lines of a script with its configuration. Nothing of the source and the sink fails.
-    fn run(&self, alloc: Global, lines: &str, disk: MemDisk) -> Result<Left, Fail> {
-        let mut words = SMALL;
+    fn run(&self, alloc: Global, rt: &impl Abort, lines: &str, disk: MemDisk) -> Left {
+        let mut words = SMALL_WORDS;
         words[12] = self.buffer;
-        run_over(alloc, &words, lines.as_bytes(), &[], &[], disk)
+        run(alloc, rt, &words, lines, disk)
     }
 
     /// How many puts are among the first changes.
@@ -75,136 +76,110 @@ impl Script {
     }
 
     /// What a scan prints of the pairs behind so many changes.
-    fn pairs(&self, alloc: Global, changes: usize) -> Result<String, Fail> {
+    fn pairs(&self, alloc: Global, rt: &impl Abort, changes: usize) -> String {
         let first = if self.has_first(changes) {
             " a 5 Elm"
         } else {
             ""
         };
-        let mut pairs = String::from_str(alloc, first)?;
+        let mut pairs = String::from_str(alloc, first).expect(rt, "memory");
         for key in KEYS.iter().take(self.puts(changes)).skip(1) {
-            write!(pairs, " {key} 1 x")?;
+            write!(pairs, " {key} 1 x").expect(rt, "memory");
         }
-        Ok(pairs)
+        pairs
     }
 
     /// What a scan prints behind so many changes.
-    fn scanned(&self, alloc: Global, changes: usize) -> Result<String, Fail> {
-        let (count, pairs) = (self.count(changes), self.pairs(alloc, changes)?);
-        Ok(format!(in alloc; "1 at {changes} scan {count}{pairs}\n")?)
+    fn scanned(&self, alloc: Global, rt: &impl Abort, changes: usize) -> String {
+        let (count, pairs) = (self.count(changes), self.pairs(alloc, rt, changes));
+        let line = format!(in alloc; "1 at {changes} scan {count}{pairs}\n");
+        line.expect(rt, "memory")
     }
 }
 
 /// The value that is erased.
 const ERASED: &[u8] = b"Elm";
 
+fn has_value(bytes: &[u8]) -> bool {
+    bytes.windows(ERASED.len()).any(|window| window == ERASED)
+}
+
 // Whether an object has the value that is erased.
-fn has_erased(alloc: Global, disk: &mut MemDisk) -> Result<bool, Fail> {
-    for (_, bytes) in &objects_of(alloc, disk)? {
-        if bytes.windows(ERASED.len()).any(|window| window == ERASED) {
-            return Ok(true);
-        }
-    }
-    Ok(false)
+fn has_erased(alloc: Global, rt: &impl Abort, disk: &mut MemDisk) -> bool {
+    let objects = must(rt, objects_of(alloc, disk));
+    objects.iter().any(|object| has_value(&object.1))
 }
 
-// Whether these are the first changes, and the value is gone where it has to be.
-fn is_front(
-    alloc: Global,
-    script: &Script,
-    changes: usize,
-    text: &[u8],
-    erased: bool,
-) -> Result<bool, Fail> {
-    if text != script.scanned(alloc, changes)?.as_bytes() {
-        return Ok(false);
-    }
-    if erased && script.clean <= changes {
-        return Err(Fail::new("a value that was swept"));
-    }
-    Ok(true)
-}
-
-// Fails where these are other changes than so many, or one more, or there is a value that was swept.
-fn must_be_front(
-    alloc: Global,
-    script: &Script,
-    done: usize,
-    text: &[u8],
-    erased: bool,
-) -> Result<(), Fail> {
+// How many changes were made where a scan prints that: so many, or one more.
+fn changes_of(alloc: Global, rt: &impl Abort, script: &Script, done: usize, text: &[u8]) -> usize {
     for changes in [done, done.saturating_add(1)] {
-        if is_front(alloc, script, changes, text, erased)? {
-            return Ok(());
+        if text == script.scanned(alloc, rt, changes).as_bytes() {
+            return changes;
         }
     }
-    Err(Fail::new("other changes"))
+    panic!(rt; "other changes")
 }
 
-// The same of the store of a disk.
-fn has_kept(alloc: Global, script: &Script, disk: MemDisk, done: usize) -> Result<(), Fail> {
-    let Left { printed, mut disk } = script.run(alloc, "1 scan a z\n", disk)?;
-    let erased = has_erased(alloc, &mut disk)?;
-    must_be_front(alloc, script, done, &printed.text, erased)
+// The store of a disk has to have so many changes, or one more, and no value that was swept.
+fn check_kept(alloc: Global, rt: &impl Abort, script: &Script, disk: MemDisk, done: usize) {
+    let Left { printed, mut disk } = script.run(alloc, rt, "1 scan a z\n", disk);
+    let changes = changes_of(alloc, rt, script, done, &printed.text);
+    assert!(rt; changes < script.clean || !has_erased(alloc, rt, &mut disk));
 }
 
-// The same of the disks that a crash may leave of this, behind so many of its calls.
-fn images_have_kept(
+// The same of the disks that a crash may leave of this, behind so many of its calls, and of the disk itself.
+fn check_all_kept(
     alloc: Global,
-    script: &Script,
-    disk: &mut MemDisk,
-    calls: u64,
-    done: usize,
-) -> Result<(), Fail> {
-    disk.fuse(20_000);
-    take_calls(alloc, disk, calls)?;
-    for image in IMAGES {
-        has_kept(alloc, script, image_of(disk, calls, image)?, done)?;
-    }
-    Ok(())
-}
-
-// The same of those, and of the disk itself.
-fn have_kept(
-    alloc: Global,
+    rt: &impl Abort,
     script: &Script,
     mut disk: MemDisk,
     calls: u64,
     done: usize,
-) -> Result<(), Fail> {
-    images_have_kept(alloc, script, &mut disk, calls, done)?;
-    has_kept(alloc, script, disk, done)
+) {
+    disk.fuse(20_000);
+    must(rt, take_calls(alloc, &mut disk, calls));
+    for image in IMAGES {
+        check_kept(
+            alloc,
+            rt,
+            script,
+            must(rt, image_of(&disk, calls, image)),
+            done,
+        );
+    }
+    check_kept(alloc, rt, script, disk, done);
 }
 
 // Stops the script behind so many device calls. Whether it wasn't done by then.
-fn is_stopped(alloc: Global, script: &Script, calls: u64) -> Result<bool, Fail> {
-    let mut disk = roomy_disk(alloc)?;
-    disk.fuse(calls);
-    let Left { printed, disk } = script.run(alloc, script.text, disk)?;
-    have_kept(alloc, script, disk, calls, done_lines(&printed.text))?;
-    Ok(printed.status != 0)
+fn is_stopped(alloc: Global, rt: &impl Abort, script: &Script, calls: u64) -> bool {
+    let disk = stopped_disk(alloc, rt, calls);
+    let Left { printed, disk } = script.run(alloc, rt, script.text, disk);
+    let done = done_lines(&printed.text);
+    check_all_kept(alloc, rt, script, disk, calls, done);
+    printed.status != 0
 }
 
-// Stops it behind each number of device calls that it takes.
-fn stop_at_each(alloc: Global, script: &Script) -> Result<(), Fail> {
+// Stops it behind each number of device calls that it takes, and counts these.
+fn stop_at_each(alloc: Global, rt: &impl Abort, script: &Script) -> u64 {
     for calls in 0..600 {
-        if !is_stopped(alloc, script, calls)? {
-            return if calls > script.calls {
-                Ok(())
-            } else {
-                Err(Fail::new("few calls"))
-            };
+        if !is_stopped(alloc, rt, script, calls) {
+            return calls;
         }
     }
-    Err(Fail::new("too many calls"))
+    panic!(rt; "too many calls")
+}
+
+// The script has to take more device calls than that, whichever it is stopped behind.
+fn check_stopped(alloc: Global, rt: &impl Abort, script: &Script) {
+    assert!(rt; stop_at_each(alloc, rt, script) > script.calls);
 }
 
 #[test]
-fn a_tick_that_sweeps_is_stopped_at_each_call(rt: HostRuntime) -> Result<(), Fail> {
-    stop_at_each(rt.alloc(), &TICKING)
+fn a_tick_that_sweeps_is_stopped_at_each_call(rt: HostRuntime) {
+    check_stopped(rt.alloc(), &rt, &TICKING);
 }
 
 #[test]
-fn room_that_is_made_by_sweeps_is_stopped_at_each_call(rt: HostRuntime) -> Result<(), Fail> {
-    stop_at_each(rt.alloc(), &CROWDED)
+fn room_that_is_made_by_sweeps_is_stopped_at_each_call(rt: HostRuntime) {
+    check_stopped(rt.alloc(), &rt, &CROWDED);
 }

@@ -3,22 +3,12 @@ ghost use Rattle.std.specs.Prelude.{IfOk};
 ghost use Rattle.lethe_core.specs.Running.{IsSound};
 ghost use Rattle.lethe_core.specs.View.{view_of};
 
-use lethe_base::{Config, Fields, Key, Pick, Value};
+use lethe_base::{Config, Value};
 use lethe_disk::Disk;
 use lethe_engine::Engine;
+use lethe_test_values::{SMALL, key_of, value_of};
 use std::alloc::Global;
 use std::test::Fail;
-
-const SMALL: Fields = Fields {
-    threshold: 100,
-    ratio: 2,
-    levels: 2,
-    page: 2,
-    tile: 2,
-    file: 2,
-    buffer: 4,
-    pick: Pick::So,
-};
 
 pub fn opened<D: Disk>(alloc: Global, disk: D) -> Result<Engine<D>, Fail>
     ensures { IfOk result (λ engine. IsSound D.tells (view_of engine.core)) }
@@ -27,14 +17,6 @@ pub fn opened<D: Disk>(alloc: Global, disk: D) -> Result<Engine<D>, Fail>
         Ok(engine) => Ok(engine),
         Err(_) => Err(Fail::new("not opened")),
     }
-}
-
-pub fn key_of(alloc: Global, text: &str) -> Option<Key> {
-    Key::new(text.as_bytes().to_vec(alloc).ok()?).ok()
-}
-
-fn value_of(alloc: Global, text: &str) -> Option<Value> {
-    Value::new(text.as_bytes().to_vec(alloc).ok()?).ok()
 }
 
 /// Whether that is the value.
@@ -47,8 +29,8 @@ pub fn put<D: Disk>(alloc: Global, engine: &mut Engine<D>, key: &str, value: &st
     requires { IsSound D.tells (view_of engine.old.core) }
     ensures { IsSound D.tells (view_of engine.new.core) }
 {
-    let key = key_of(alloc, key)?;
-    let value = value_of(alloc, value)?;
+    let key = key_of(alloc, key).ok()?;
+    let value = value_of(alloc, value.as_bytes()).ok()?;
     let mut port = engine.new_port(alloc).ok()?;
     engine.put(alloc, &mut port, key, 7, value).ok()
 }
@@ -67,7 +49,7 @@ pub fn has<D: Disk>(alloc: Global, engine: &mut Engine<D>, key: &str, value: &st
     requires { IsSound D.tells (view_of engine.old.core) }
     ensures { IsSound D.tells (view_of engine.new.core) }
 {
-    let (Some(key), Ok(mut port)) = (key_of(alloc, key), engine.new_port(alloc)) else {
+    let (Ok(key), Ok(mut port)) = (key_of(alloc, key), engine.new_port(alloc)) else {
         return false;
     };
     matches!(engine.get(alloc, &mut port, &key), Ok(found) if is_value(&found, value))

@@ -2,11 +2,12 @@
 ghost use Rattle.lethe_core.specs.Running.{IsSound};
 ghost use Rattle.lethe_core.specs.View.{view_of};
 
-use crate::common::{is_value, key_of, put_into};
+use crate::common::{is_value, put_into};
 use lethe_base::Refused;
 use lethe_disk::Disk;
 use lethe_engine::Engine;
 use lethe_snapshot::Snapshot;
+use lethe_test_values::key_of;
 use std::alloc::Global;
 use std::thread::{Threads, join};
 
@@ -40,7 +41,7 @@ fn pin_there<D: Disk, R: Threads + Sync>(
 
 /// Whether the snapshot has the old value.
 fn reads<D: Disk>(alloc: Global, snapshot: &Snapshot<D>, mut port: D::Port) -> bool {
-    let Some(key) = key_of(alloc, "a") else {
+    let Ok(key) = key_of(alloc, "a") else {
         return false;
     };
     matches!(snapshot.get(alloc, &mut port, &key), Ok(found) if is_value(&found, "old"))

@@ -3,22 +3,12 @@ ghost use Rattle.std.specs.Prelude.{IfOk};
 ghost use Rattle.lethe_core.specs.Running.{IsSound};
 ghost use Rattle.lethe_core.specs.View.{view_of};
 
-use lethe_base::{Config, Fields, Key, Pick, Refused, Value};
+use lethe_base::{Config, Refused};
 use lethe_disk::Disk;
 use lethe_engine::Engine;
+use lethe_test_values::{SMALL, key_of, value_of};
 use std::alloc::Global;
 use std::test::Fail;
-
-const SMALL: Fields = Fields {
-    threshold: 100,
-    ratio: 2,
-    levels: 2,
-    page: 2,
-    tile: 2,
-    file: 2,
-    buffer: 4,
-    pick: Pick::So,
-};
 
 /// The keys of each file.
 const FILES: [[&str; 4]; 3] = [
@@ -29,10 +19,6 @@ const FILES: [[&str; 4]; 3] = [
 
 /// All keys.
 pub const KEYS: [&str; 12] = ["a", "b", "c", "d", "e", "f", "g", "h", "i", "j", "k", "l"];
-
-pub fn key_of(alloc: Global, text: &str) -> Result<Key, Fail> {
-    Ok(Key::new(text.as_bytes().to_vec(alloc)?)?)
-}
 
 fn opened<D: Disk>(alloc: Global, disk: D) -> Result<Engine<D>, Fail>
     ensures { IfOk result (λ engine. IsSound D.tells (view_of engine.core)) }
@@ -48,7 +34,7 @@ fn put<D: Disk>(alloc: Global, engine: &mut Engine<D>, text: &str) -> Result<u64
     ensures { IsSound D.tells (view_of engine.new.core) }
 {
     let key = key_of(alloc, text)?;
-    let value = Value::new(text.as_bytes().to_vec(alloc)?)?;
+    let value = value_of(alloc, text.as_bytes())?;
     let mut port = engine.new_port(alloc)?;
     Ok(engine.put(alloc, &mut port, key, 7, value)?)
 }

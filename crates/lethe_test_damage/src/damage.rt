@@ -2,11 +2,12 @@
 ghost use Rattle.lethe_core.specs.Running.{IsSound};
 ghost use Rattle.lethe_core.specs.View.{view_of};
 
-use crate::common::{KEYS, key_of, scan, three_files};
+use crate::common::{KEYS, scan, three_files};
 use crate::lying::LyingDisk;
 use lethe_base::{Kind, Refused, Value};
 use lethe_disk::Disk;
 use lethe_engine::Engine;
+use lethe_test_values::key_of;
 use std::alloc::Global;
 use std::test::Fail;
 

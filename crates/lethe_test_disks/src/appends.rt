@@ -6,13 +6,15 @@ ghost use Rattle.lethe_memdisk.specs.Held.{seen_of, calls_of};
 ghost use Rattle.lethe_segment.specs.Records.{RecordHasSpelling, record_seq};
 ghost use Rattle.lethe_commit.specs.Append.{EndsAt};
 
-use crate::common::{crashed, has};
-use lethe_base::{Body, Entry, Key, Kind, Name, Value};
+use crate::common::{crashed, has, must};
+use lethe_base::{Body, Entry, Kind, Name};
 use lethe_commit::append;
 use lethe_disk::{Disk, DiskRefused};
 use lethe_memdisk::MemDisk;
 use lethe_segment::{Record, new_segment, replay, write_record};
+use lethe_test_values::{key_of, value_of};
 use std::alloc::Global;
+use std::process::Abort;
 use std::test::Fail;
 
 const SEGMENT: Name = Name {
@@ -36,19 +38,18 @@ fn disk_of_a_segment(alloc: Global, failing: Vec<u64>) -> Result<MemDisk, Fail>
 }
 
 // The put of key `a`, delete key 5, value `x` at place 1.
-fn first_put(alloc: Global) -> Result<Record, Fail>
-    ensures spelled { IfOk result RecordHasSpelling }
-    ensures place { IfOk result (λ item. 0 < record_seq item) }
+fn first_put(alloc: Global, rt: &impl Abort) -> Record
+    ensures spelled { RecordHasSpelling result }
+    ensures place { 0 < record_seq result }
 {
-    Ok(Record::Entry(Entry {
+    let key = key_of(alloc, "a").expect(rt, "a key");
+    let value = value_of(alloc, b"x").expect(rt, "a value");
+    Record::Entry(Entry {
         seq: 1,
-        key: Key::new(b"a".to_vec(alloc)?)?,
-        body: Body::Put {
-            dkey: 5,
-            value: Value::new(b"x".to_vec(alloc)?)?,
-        },
+        key,
+        body: Body::Put { dkey: 5, value },
         since: None,
-    }))
+    })
 }
 
 // Appends a record to the new segment, and answers whether that was done.
@@ -69,16 +70,12 @@ fn append_one(alloc: Global, disk: &mut MemDisk, item: &Record) -> Result<bool, 
 }
 
 // How many records the segment has.
-fn count(alloc: Global, disk: &mut MemDisk) -> Result<usize, Fail>
+fn count(alloc: Global, rt: &impl Abort, disk: &mut MemDisk) -> usize
     requires { IsSome (object (seen_of disk.old).directory SEGMENT) }
 {
-    let Ok(bytes) = disk.read(alloc, SEGMENT) else {
-        return Err(Fail::new("a segment"));
-    };
-    let Ok(records) = replay(alloc, &bytes) else {
-        return Err(Fail::new("records"));
-    };
-    Ok(records.len())
+    let bytes = disk.read(alloc, SEGMENT).expect(rt, "a segment");
+    let records = replay(alloc, &bytes).expect(rt, "records");
+    records.len()
 }
 
 /// How many calls of the append are done before a crash, what fills a byte that was being written, and how many records are left.
@@ -93,35 +90,37 @@ const IMAGES: [(u64, u8, usize); 7] = [
 ];
 
 // A disk behind such an append.
-fn appended(alloc: Global) -> Result<MemDisk, Fail>
-    ensures { IfOk result (λ disk. calls_of disk ≡ 6) }
+fn appended(alloc: Global, rt: &impl Abort) -> MemDisk
+    ensures { calls_of result ≡ 6 }
 {
-    let mut disk = disk_of_a_segment(alloc, Vec::new(alloc))?;
-    if !append_one(alloc, &mut disk, &first_put(alloc)?)? {
-        return Err(Fail::new("an append"));
-    }
-    Ok(disk)
+    let mut disk = must(rt, disk_of_a_segment(alloc, Vec::new(alloc)));
+    let item = first_put(alloc, rt);
+    let done = must(rt, append_one(alloc, &mut disk, &item));
+    assert!(rt; done);
+    disk
 }
 
 // How many records a crash leaves.
-fn count_left(alloc: Global, disk: &MemDisk, moment: u64, fill: u8) -> Result<usize, Fail>
+fn count_left(alloc: Global, rt: &impl Abort, disk: &MemDisk, moment: u64, fill: u8) -> usize
     requires { moment ≤ calls_of disk.now }
 {
-    let mut left = crashed(disk, moment, fill, true)?;
-    if !has(alloc, &mut left, SEGMENT)? {
-        return Err(Fail::new("a segment"));
+    let mut left = crashed(rt, disk, moment, fill, true);
+    let there = has(alloc, &mut left, SEGMENT).expect(rt, "names");
+    assert!(rt; there);
+    count(alloc, rt, &mut left)
+}
+
+fn check_images(alloc: Global, rt: &impl Abort, disk: &MemDisk)
+    requires { calls_of disk.now ≡ 6 }
+{
+    for (calls, fill, records) in IMAGES {
+        assert!(rt; count_left(alloc, rt, disk, 2 + calls.min(4), fill) == records);
     }
-    count(alloc, &mut left)
 }
 
 #[test]
-fn an_append_that_a_crash_cuts_short_counts_from_its_gate_on(rt: HostRuntime) -> Result<(), Fail> {
-    let disk = appended(rt.alloc())?;
-    for (calls, fill, records) in IMAGES {
-        let left = count_left(rt.alloc(), &disk, 2 + calls.min(4), fill)?;
-        assert!(rt; left == records);
-    }
-    Ok(())
+fn an_append_that_a_crash_cuts_short_counts_from_its_gate_on(rt: HostRuntime) {
+    check_images(rt.alloc(), &rt, &appended(rt.alloc(), &rt));
 }
 
 /// The number of the call that fails, whether the append is done, and how many records there are then.
@@ -134,16 +133,17 @@ const FAILURES: [(u64, bool, usize); 5] = [
 ];
 
 // Whether the append is done, and how many records there are then, where this call fails.
-fn append_failing(alloc: Global, failing: u64) -> Result<(bool, usize), Fail> {
-    let mut disk = disk_of_a_segment(alloc, vec![in alloc; failing]?)?;
-    let done = append_one(alloc, &mut disk, &first_put(alloc)?)?;
-    Ok((done, count(alloc, &mut disk)?))
+fn append_failing(alloc: Global, rt: &impl Abort, failing: u64) -> (bool, usize) {
+    let failing = vec![in alloc; failing].expect(rt, "memory");
+    let mut disk = must(rt, disk_of_a_segment(alloc, failing));
+    let item = first_put(alloc, rt);
+    let done = must(rt, append_one(alloc, &mut disk, &item));
+    (done, count(alloc, rt, &mut disk))
 }
 
 #[test]
-fn an_append_fails_where_the_disk_does(rt: HostRuntime) -> Result<(), Fail> {
+fn an_append_fails_where_the_disk_does(rt: HostRuntime) {
     for (failing, done, records) in FAILURES {
-        assert!(rt; append_failing(rt.alloc(), failing)? == (done, records));
+        assert!(rt; append_failing(rt.alloc(), &rt, failing) == (done, records));
     }
-    Ok(())
 }

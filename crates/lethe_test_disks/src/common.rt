@@ -1,30 +1,29 @@
 //! What the tests of disks share.
-ghost use Rattle.std.specs.Prelude.{◌≡◌, ◌≤◌, ◌+◌, None, IfOk, OnOk, IsTrue, IsFalse, IsSome};
+ghost use Rattle.std.specs.Prelude.{◌≡◌, ◌≤◌, ◌+◌, Ok, None, IfOk, OnOk, IsTrue, IsFalse, IsSome};
 ghost use Rattle.std.specs.FinMap.{insert};
 ghost use Rattle.lethe_disk.specs.Directory.{object};
 ghost use Rattle.lethe_memdisk.specs.Held.{seen_of, calls_of};
 
-use lethe_base::{Fields, Name, Pick};
+use lethe_base::Name;
 use lethe_disk::{Disk, DiskRefused};
 use lethe_memdisk::MemDisk;
 use std::alloc::Global;
+use std::process::Abort;
 use std::test::Fail;
-
-/// A small configuration.
-pub const SMALL: Fields = Fields {
-    threshold: 100,
-    ratio: 2,
-    levels: 2,
-    page: 2,
-    tile: 2,
-    file: 2,
-    buffer: 4,
-    pick: Pick::So,
-};
 
 /// Manifest 2 of a new store, which cites segment 1.
 pub const MANIFEST: [u8; 71] =
     *b"LM\x01\0\0\0\0\0\0\0\x02\0\0\0\0\0\0\0\x64\x02\x02\0\x02\x02\0\x02\0\x04\0\0\0\0\0\0\0\0\0\0\0\0\0\0\0\0\0\0\0\0\0\0\0\0\x03\0\0\0\0\0\x01\0\0\0\0\0\0\0\x01\0\0\0\0";
+
+/// What was made; the process ends where it wasn't.
+pub fn must<T>(rt: &impl Abort, made: Result<T, Fail>) -> T
+    ensures { made ≡ Ok result }
+{
+    match made {
+        Ok(value) => value,
+        Err(_) => panic!(rt; "it isn't made"),
+    }
+}
 
 /// Whether a call of a disk or a port failed.
 pub fn fails<T: Drop>(answer: Result<T, DiskRefused>) -> bool {
@@ -58,16 +57,13 @@ pub fn add(disk: &mut MemDisk, name: Name, bytes: &[u8]) -> Result<(), Fail>
 }
 
 /// How many objects there are.
-pub fn count_objects(alloc: Global, disk: &mut MemDisk) -> Result<usize, Fail> {
-    match disk.names(alloc) {
-        Ok(names) => Ok(names.len()),
-        Err(_) => Err(Fail::new("names")),
-    }
+pub fn count_objects(alloc: Global, rt: &impl Abort, disk: &mut MemDisk) -> usize {
+    disk.names(alloc).expect(rt, "names").len()
 }
 
 /// What a crash at a moment leaves of the disk, as `MemDisk::crash` has it.
-pub fn crashed(disk: &MemDisk, moment: u64, fill: u8, keep: bool) -> Result<MemDisk, Fail>
+pub fn crashed(rt: &impl Abort, disk: &MemDisk, moment: u64, fill: u8, keep: bool) -> MemDisk
     requires { moment ≤ calls_of disk.now }
 {
-    Ok(disk.crash(moment, fill, keep)?)
+    disk.crash(moment, fill, keep).expect(rt, "memory")
 }

@@ -8,7 +8,7 @@ use lethe_dirdisk::{
 use lethe_disk::Disk;
 use std::alloc::Global;
 use std::os::unix::fs::symlink;
-use std::test::Fail;
+use std::process::Abort;
 use std::{fs, io};
 
 fn name(kind: Kind, no: u64) -> Name {
@@ -18,6 +18,12 @@ fn name(kind: Kind, no: u64) -> Name {
 // A folder of that path that isn't there.
 fn clear(rt: &HostRuntime, path: &str) {
     let _ = fs::remove_dir_all(rt, path);
+}
+
+// The disk of a folder that is made anew.
+fn opened(host: &HostRuntime, rt: &impl Abort, path: &str) -> DirDisk {
+    clear(host, path);
+    DirDisk::open(host, host.alloc(), path).expect(rt, "a folder")
 }
 
 // Whether the system did what it was asked.
@@ -68,14 +74,12 @@ fn has_objects(alloc: Global, disk: &mut DirDisk) -> bool {
 }
 
 // Whether the page is fetched, and there are no faults.
-fn fetches_page(alloc: Global, disk: &mut DirDisk) -> Result<bool, Fail> {
-    let opened = disk.open_page(alloc, PAGE)?;
-    let mut port = disk.port(alloc)?;
-    Ok(
-        gives(DirDisk::fetch(alloc, &mut port, &opened), b"a page")
-            && DirDisk::port_faults(&port) == 0
-            && disk.faults() == 0,
-    )
+fn fetches_page(alloc: Global, rt: &impl Abort, disk: &mut DirDisk) -> bool {
+    let page = disk.open_page(alloc, PAGE).expect(rt, "a page");
+    let mut port = disk.port(alloc).expect(rt, "a port");
+    gives(DirDisk::fetch(alloc, &mut port, &page), b"a page")
+        && DirDisk::port_faults(&port) == 0
+        && disk.faults() == 0
 }
 
 // Whether the folder, opened again, has the page.
@@ -86,18 +90,20 @@ fn keeps_page(rt: &HostRuntime, folder: &str) -> bool {
     }
 }
 
+fn check_calls(host: &HostRuntime, rt: &impl Abort, folder: &str) {
+    let alloc = host.alloc();
+    let mut disk = opened(host, rt, folder);
+    assert!(rt; make_objects(&mut disk) && has_objects(alloc, &mut disk));
+    assert!(rt; fetches_page(alloc, rt, &mut disk));
+}
+
 #[test]
-fn each_call_does_what_it_is_asked(rt: HostRuntime) -> Result<(), Fail> {
+fn each_call_does_what_it_is_asked(rt: HostRuntime) {
     const FOLDER: &str = "lethe_dirdisk_calls";
-    clear(&rt, FOLDER);
-    let mut disk = DirDisk::open(&rt, rt.alloc(), FOLDER)?;
-    assert!(rt; make_objects(&mut disk) && has_objects(rt.alloc(), &mut disk));
-    assert!(rt; fetches_page(rt.alloc(), &mut disk)?);
-    drop(disk);
+    check_calls(&rt, &rt, FOLDER);
     assert!(rt; has_bytes(&rt, "lethe_dirdisk_calls/s-00000000000000000002", b"AbXYZ"));
     assert!(rt; keeps_page(&rt, "lethe_dirdisk_calls/"));
     clear(&rt, FOLDER);
-    Ok(())
 }
 
 /// A page that isn't there.
@@ -126,33 +132,33 @@ fn stops_at_link(rt: &HostRuntime, disk: &mut DirDisk) -> bool {
 }
 
 // Whether the page isn't fetched once it is removed.
-fn forgets_page(alloc: Global, disk: &mut DirDisk, page: &DirPage) -> Result<bool, Fail> {
-    disk.remove(PAGE)?;
-    let mut port = disk.port(alloc)?;
-    Ok(fails(DirDisk::fetch(alloc, &mut port, page)) && DirDisk::port_faults(&port) == 1)
+fn forgets_page(alloc: Global, rt: &impl Abort, disk: &mut DirDisk, page: &DirPage) -> bool {
+    disk.remove(PAGE).expect(rt, "a removal");
+    let mut port = disk.port(alloc).expect(rt, "a port");
+    fails(DirDisk::fetch(alloc, &mut port, page)) && DirDisk::port_faults(&port) == 1
 }
 
 // Whether six calls fail and are counted, and a fetch fails behind them.
-fn counts_errors(rt: &HostRuntime, disk: &mut DirDisk) -> Result<bool, Fail> {
-    disk.create(PAGE, b"abc")?;
-    let page = disk.open_page(rt.alloc(), PAGE)?;
-    Ok(
-        each_fails(rt.alloc(), disk)
-            && stops_at_link(rt, disk)
-            && disk.faults() == 6
-            && forgets_page(rt.alloc(), disk, &page)?,
-    )
+fn counts_errors(host: &HostRuntime, rt: &impl Abort, disk: &mut DirDisk) -> bool {
+    let alloc = host.alloc();
+    disk.create(PAGE, b"abc").expect(rt, "a page");
+    let page = disk.open_page(alloc, PAGE).expect(rt, "a page");
+    each_fails(alloc, disk)
+        && stops_at_link(host, disk)
+        && disk.faults() == 6
+        && forgets_page(alloc, rt, disk, &page)
+}
+
+fn check_errors(host: &HostRuntime, rt: &impl Abort, folder: &str) {
+    let mut disk = opened(host, rt, folder);
+    assert!(rt; counts_errors(host, rt, &mut disk));
+    clear(host, folder);
+    assert!(rt; fails(disk.names(host.alloc())) && disk.faults() == 7);
 }
 
 #[test]
-fn each_error_is_counted(rt: HostRuntime) -> Result<(), Fail> {
-    const FOLDER: &str = "lethe_dirdisk_errors";
-    clear(&rt, FOLDER);
-    let mut disk = DirDisk::open(&rt, rt.alloc(), FOLDER)?;
-    assert!(rt; counts_errors(&rt, &mut disk)?);
-    clear(&rt, FOLDER);
-    assert!(rt; fails(disk.names(rt.alloc())) && disk.faults() == 7);
-    Ok(())
+fn each_error_is_counted(rt: HostRuntime) {
+    check_errors(&rt, &rt, "lethe_dirdisk_errors");
 }
 
 // Whether two syncs fail once the file of an object that was made before is gone.
@@ -165,14 +171,15 @@ fn fails_for_ever(rt: &HostRuntime, disk: &mut DirDisk) -> bool {
         && disk.faults() == 2
 }
 
+fn check_torn(host: &HostRuntime, rt: &impl Abort, folder: &str) {
+    let mut disk = opened(host, rt, folder);
+    assert!(rt; fails_for_ever(host, &mut disk));
+    clear(host, folder);
+}
+
 #[test]
-fn what_a_sync_cannot_reach_fails_for_ever(rt: HostRuntime) -> Result<(), Fail> {
-    const FOLDER: &str = "lethe_dirdisk_torn";
-    clear(&rt, FOLDER);
-    let mut disk = DirDisk::open(&rt, rt.alloc(), FOLDER)?;
-    assert!(rt; fails_for_ever(&rt, &mut disk));
-    clear(&rt, FOLDER);
-    Ok(())
+fn what_a_sync_cannot_reach_fails_for_ever(rt: HostRuntime) {
+    check_torn(&rt, &rt, "lethe_dirdisk_torn");
 }
 
 /// Paths of files that are no objects.

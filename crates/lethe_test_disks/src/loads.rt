@@ -1,13 +1,13 @@
 //! Reading a disk back, and opening it: what is there, what is damaged, another configuration, and faults.
 
-use crate::common::{MANIFEST, SMALL, add, has};
+use crate::common::{MANIFEST, add, has, must};
 use lethe_base::{Config, Fields, Kind, Name};
 use lethe_load::{RecoverRefused, Recovered, load};
 use lethe_memdisk::MemDisk;
 use lethe_recover::{OpenWhy, Opened, open};
+use lethe_test_values::SMALL;
 use std::alloc::Global;
 use std::process::Abort;
-use std::test::Fail;
 
 /// The manifest of a new store, but that it cites segment 0 as the frozen one.
 const TWO_SEGMENTS: [u8; 79] =
@@ -25,11 +25,10 @@ fn name(kind: Kind, no: u64) -> Name {
     Name { kind, no }
 }
 
-fn add_new(alloc: Global, disk: &mut MemDisk, name: Name, bytes: &[u8]) -> Result<(), Fail> {
-    if has(alloc, disk, name)? {
-        return Err(Fail::new("a new name"));
-    }
-    add(disk, name, bytes)
+fn add_new(alloc: Global, rt: &impl Abort, disk: &mut MemDisk, name: Name, bytes: &[u8]) {
+    let there = has(alloc, disk, name).expect(rt, "names");
+    assert!(rt; !there);
+    must(rt, add(disk, name, bytes));
 }
 
 // What of a store a disk is to have: its gates, manifest 2 and segment 1.
@@ -40,18 +39,18 @@ struct Parts {
     segment: Option<&'static [u8]>,
 }
 
-fn disk_of(alloc: Global, parts: Parts, failing: Vec<u64>) -> Result<MemDisk, Fail> {
-    let mut disk = MemDisk::new(alloc, 100, failing)?;
+fn disk_of(alloc: Global, rt: &impl Abort, parts: Parts, failing: Vec<u64>) -> MemDisk {
+    let mut disk = MemDisk::new(alloc, 100, failing).expect(rt, "memory");
     for gate in parts.gates {
-        add_new(alloc, &mut disk, name(Kind::Gate, *gate), &[])?;
+        add_new(alloc, rt, &mut disk, name(Kind::Gate, *gate), &[]);
     }
     if let Some(bytes) = parts.manifest {
-        add_new(alloc, &mut disk, name(Kind::Manifest, 2), bytes)?;
+        add_new(alloc, rt, &mut disk, name(Kind::Manifest, 2), bytes);
     }
     if let Some(bytes) = parts.segment {
-        add_new(alloc, &mut disk, name(Kind::Segment, 1), bytes)?;
+        add_new(alloc, rt, &mut disk, name(Kind::Segment, 1), bytes);
     }
-    Ok(disk)
+    disk
 }
 
 // How many records there are, if there is a gate.
@@ -68,23 +67,27 @@ fn count(read: &Recovered<MemDisk>) -> Option<usize> {
 /// How many records are read, if there is a gate, or why nothing is.
 type Told = Result<Option<usize>, RecoverRefused>;
 
-fn records(alloc: Global, disk: &mut MemDisk, fields: Fields) -> Result<Told, Fail> {
-    let config = Config::new(fields).ok().ok_or("a configuration")?;
-    match load(alloc, disk, &config) {
-        Ok(read) => Ok(Ok(count(&read))),
-        Err(why) => Ok(Err(why)),
+fn config_of(rt: &impl Abort, fields: Fields) -> Config {
+    Config::new(fields).expect(rt, "a configuration")
+}
+
+fn records(alloc: Global, disk: &mut MemDisk, config: &Config) -> Told {
+    match load(alloc, disk, config) {
+        Ok(read) => Ok(count(&read)),
+        Err(why) => Err(why),
     }
 }
 
 // The same of a disk with these parts, where these calls fail.
 fn records_of(
     alloc: Global,
+    rt: &impl Abort,
     parts: Parts,
     fields: Fields,
     failing: Vec<u64>,
-) -> Result<Told, Fail> {
-    let mut disk = disk_of(alloc, parts, failing)?;
-    records(alloc, &mut disk, fields)
+) -> Told {
+    let mut disk = disk_of(alloc, rt, parts, failing);
+    records(alloc, &mut disk, &config_of(rt, fields))
 }
 
 const WHOLE: Parts = Parts {
@@ -184,37 +187,41 @@ const READS: [Read; 13] = [
     ),
 ];
 
-fn check_reads(rt: &impl Abort, alloc: Global, reads: &[Read]) -> Result<(), Fail> {
-    for (parts, read) in reads {
-        let want = read.map_err(|(kind, no)| RecoverRefused::Damaged {
-            name: name(kind, no),
-        });
-        let got = records_of(alloc, *parts, SMALL, Vec::new(alloc))?;
-        assert!(rt; got == want);
+fn check_read(alloc: Global, rt: &impl Abort, read: &Read) {
+    let want = read.1.map_err(|(kind, no)| RecoverRefused::Damaged {
+        name: name(kind, no),
+    });
+    assert!(rt; records_of(alloc, rt, read.0, SMALL, Vec::new(alloc)) == want);
+}
+
+#[test]
+fn the_greatest_gate_tells_what_is_loaded(rt: HostRuntime) {
+    for read in &READS {
+        check_read(rt.alloc(), &rt, read);
     }
-    Ok(())
 }
 
-#[test]
-fn the_greatest_gate_tells_what_is_loaded(rt: HostRuntime) -> Result<(), Fail> {
-    check_reads(&rt, rt.alloc(), &READS)
-}
-
-#[test]
-fn another_configuration_and_faults_are_told(rt: HostRuntime) -> Result<(), Fail> {
-    let alloc = rt.alloc();
-    let kept = Config::new(SMALL).ok().ok_or("a configuration")?;
-    let other = records_of(alloc, WHOLE, Fields::default(), Vec::new(alloc))?;
+fn check_other_config(alloc: Global, rt: &impl Abort) {
+    let kept = config_of(rt, SMALL);
+    let other = records_of(alloc, rt, WHOLE, Fields::default(), Vec::new(alloc));
     assert!(rt; other == Err(RecoverRefused::OtherConfig { kept }));
+}
+
+fn check_fault(alloc: Global, rt: &impl Abort, failing: u64) {
+    let failing = vec![in alloc; failing].expect(rt, "memory");
+    let fault = RecoverRefused::Fault {
+        before: 0,
+        after: 1,
+    };
+    assert!(rt; records_of(alloc, rt, WHOLE, SMALL, failing) == Err(fault));
+}
+
+#[test]
+fn another_configuration_and_faults_are_told(rt: HostRuntime) {
+    check_other_config(rt.alloc(), &rt);
     for failing in 7..10 {
-        let told = records_of(alloc, WHOLE, SMALL, vec![in alloc; failing]?)?;
-        let fault = RecoverRefused::Fault {
-            before: 0,
-            after: 1,
-        };
-        assert!(rt; told == Err(fault));
+        check_fault(rt.alloc(), &rt, failing);
     }
-    Ok(())
 }
 
 const EMPTY: Parts = Parts {
@@ -239,24 +246,24 @@ fn counts(store: &Opened<MemDisk>) -> Counts {
     (manifest.count, files, segment, manifest.next)
 }
 
-fn opened(alloc: Global, disk: &mut MemDisk, fields: Fields) -> Result<Opening, Fail> {
-    let config = Config::new(fields).ok().ok_or("a configuration")?;
-    match open(alloc, disk, &config) {
-        Ok(store) => Ok(Ok(counts(&store))),
-        Err(why) => Ok(Err(why)),
+fn opened(alloc: Global, disk: &mut MemDisk, config: &Config) -> Opening {
+    match open(alloc, disk, config) {
+        Ok(store) => Ok(counts(&store)),
+        Err(why) => Err(why),
     }
 }
 
 // What is opened of a disk with these parts, and what is opened again, by these configurations.
 fn opened_twice(
     alloc: Global,
+    rt: &impl Abort,
     parts: Parts,
     first: Fields,
     second: Fields,
-) -> Result<(Opening, Opening), Fail> {
-    let mut disk = disk_of(alloc, parts, Vec::new(alloc))?;
-    let before = opened(alloc, &mut disk, first)?;
-    Ok((before, opened(alloc, &mut disk, second)?))
+) -> (Opening, Opening) {
+    let mut disk = disk_of(alloc, rt, parts, Vec::new(alloc));
+    let before = opened(alloc, &mut disk, &config_of(rt, first));
+    (before, opened(alloc, &mut disk, &config_of(rt, second)))
 }
 
 /// What a disk has, and what is opened the first time and the second.
@@ -274,13 +281,16 @@ const OPENINGS: [(Parts, Counts, Counts); 3] = [
     (WHOLE, (1, 1, Some(5), 7), (1, 1, Some(7), 9)),
 ];
 
+fn check_opening(alloc: Global, rt: &impl Abort, parts: Parts, first: Counts, second: Counts) {
+    let told = opened_twice(alloc, rt, parts, SMALL, SMALL);
+    assert!(rt; told == (Ok(first), Ok(second)));
+}
+
 #[test]
-fn a_store_is_opened_and_opened_again(rt: HostRuntime) -> Result<(), Fail> {
+fn a_store_is_opened_and_opened_again(rt: HostRuntime) {
     for (parts, first, second) in OPENINGS {
-        let told = opened_twice(rt.alloc(), parts, SMALL, SMALL)?;
-        assert!(rt; told == (Ok(first), Ok(second)));
+        check_opening(rt.alloc(), &rt, parts, first, second);
     }
-    Ok(())
 }
 
 fn without_segment() -> OpenWhy {
@@ -294,14 +304,21 @@ const NO_SEGMENT: Parts = Parts {
     ..WHOLE
 };
 
-#[test]
-fn what_is_not_opened_stays(rt: HostRuntime) -> Result<(), Fail> {
-    let kept = Config::new(SMALL).ok().ok_or("a configuration")?;
-    let (other, own) = opened_twice(rt.alloc(), WHOLE, Fields::default(), SMALL)?;
+fn check_other_opening(alloc: Global, rt: &impl Abort) {
+    let kept = config_of(rt, SMALL);
+    let (other, own) = opened_twice(alloc, rt, WHOLE, Fields::default(), SMALL);
     assert!(rt; other == Err(OpenWhy::OtherConfig { kept }));
     assert!(rt; own == Ok((1, 1, Some(5), 7)));
-    let (first, again) = opened_twice(rt.alloc(), NO_SEGMENT, SMALL, SMALL)?;
+}
+
+fn check_no_segment(alloc: Global, rt: &impl Abort) {
+    let (first, again) = opened_twice(alloc, rt, NO_SEGMENT, SMALL, SMALL);
     assert!(rt; first == Err(without_segment()));
     assert!(rt; again == Err(without_segment()));
-    Ok(())
+}
+
+#[test]
+fn what_is_not_opened_stays(rt: HostRuntime) {
+    check_other_opening(rt.alloc(), &rt);
+    check_no_segment(rt.alloc(), &rt);
 }

@@ -49,6 +49,6 @@ fn a_page_is_written_and_removed(rt: HostRuntime) -> Result<(), Fail> {
     if remove_pages(&mut disk, written).is_err() {
         return Err(Fail::new("not removed"));
     }
-    assert!(rt; count_objects(alloc, &mut disk)? == 3);
+    assert!(rt; count_objects(alloc, &rt, &mut disk) == 3);
     Ok(())
 }

@@ -8,7 +8,6 @@ use lethe_disk::{Disk, DiskRefused};
 use lethe_memdisk::{FlakyDisk, FlakyPort, MemDisk, MemPage, MemPort};
 use std::alloc::Global;
 use std::process::Abort;
-use std::test::Fail;
 
 const FAILED: &[u8] = b"failed";
 
@@ -138,17 +137,16 @@ fn answers(alloc: Global, disk: &mut MemDisk, step: Step, want: &[u8]) -> bool {
 }
 
 // Takes the steps, of which none is to fail or to read, and tells how many device calls there were.
-fn take_all(alloc: Global, disk: &mut MemDisk, steps: &[Step]) -> Result<u64, Fail>
-    ensures { IfOk result (λ calls. calls_of disk.old + calls ≤ calls_of disk.new) }
+fn take_all(alloc: Global, rt: &impl Abort, disk: &mut MemDisk, steps: &[Step]) -> u64
+    ensures { calls_of disk.old + result ≤ calls_of disk.new }
 {
     let mut calls = 0_u64;
     for step in steps {
-        match carry_out(alloc, disk, *step) {
-            Ok(answer) if answer.bytes.is_empty() => calls = calls.saturating_add(answer.calls),
-            _ => return Err(Fail::new("a step")),
-        }
+        let answer = carry_out(alloc, disk, *step).expect(rt, "a step");
+        assert!(rt; answer.bytes.is_empty());
+        calls = calls.saturating_add(answer.calls);
     }
-    Ok(calls)
+    calls
 }
 
 /// Steps, and what each answers. The third one's write is the call 7, and the last one's read has no room.
@@ -175,33 +173,42 @@ const FUSED: [(Step, &[u8]); 4] = [
     (Step::Names, FAILED),
 ];
 
-fn check_answers(rt: &impl Abort, alloc: Global, disk: &mut MemDisk, rows: &[(Step, &[u8])]) {
+fn check_answers(alloc: Global, rt: &impl Abort, disk: &mut MemDisk, rows: &[(Step, &[u8])]) {
     for (step, want) in rows {
         assert!(rt; answers(alloc, disk, *step, want));
     }
 }
 
 // Whether other bytes are put into the object 7 alone, behind the last call that there is room for.
-fn swaps(alloc: Global, disk: &mut MemDisk) -> Result<bool, Fail> {
+fn swaps(alloc: Global, rt: &impl Abort, disk: &mut MemDisk) -> bool {
     let absent = disk.swap(file(2), Vec::new(alloc));
-    let there = disk.swap(file(7), b"new".to_vec(alloc)?);
-    Ok(there && !absent && answers(alloc, disk, Step::Read(7), FAILED))
+    let bytes = b"new".to_vec(alloc).expect(rt, "memory");
+    let there = disk.swap(file(7), bytes);
+    there && !absent && answers(alloc, disk, Step::Read(7), FAILED)
 }
 
-fn fused(alloc: Global) -> Result<MemDisk, Fail> {
-    let mut disk = MemDisk::new(alloc, 9, Vec::new(alloc))?;
+// An empty disk with room for so many calls, of which this one fails.
+fn failing(alloc: Global, rt: &impl Abort, room: u64, call: u64) -> MemDisk {
+    let failing = vec![in alloc; call].expect(rt, "memory");
+    MemDisk::new(alloc, room, failing).expect(rt, "memory")
+}
+
+fn check_failing(alloc: Global, rt: &impl Abort) {
+    let mut disk = failing(alloc, rt, 24, 7);
+    check_answers(alloc, rt, &mut disk, &ANSWERS);
+    assert!(rt; disk.faults() == 2 && swaps(alloc, rt, &mut disk));
+}
+
+fn check_fused(alloc: Global, rt: &impl Abort) {
+    let mut disk = MemDisk::new(alloc, 9, Vec::new(alloc)).expect(rt, "memory");
     disk.fuse(2);
-    Ok(disk)
+    check_answers(alloc, rt, &mut disk, &FUSED);
 }
 
 #[test]
-fn each_call_answers_and_fails_where_it_is_told(rt: HostRuntime) -> Result<(), Fail> {
-    let alloc = rt.alloc();
-    let mut disk = MemDisk::new(alloc, 24, vec![in alloc; 7]?)?;
-    check_answers(&rt, alloc, &mut disk, &ANSWERS);
-    assert!(rt; disk.faults() == 2 && swaps(alloc, &mut disk)?);
-    check_answers(&rt, alloc, &mut fused(alloc)?, &FUSED);
-    Ok(())
+fn each_call_answers_and_fails_where_it_is_told(rt: HostRuntime) {
+    check_failing(rt.alloc(), &rt);
+    check_fused(rt.alloc(), &rt);
 }
 
 /// Steps of 16 device calls: up to the call of that number is done.
@@ -232,42 +239,36 @@ const IMAGES: [Image; 8] = [
 ];
 
 // The disk behind these steps.
-fn stepped(alloc: Global) -> Result<MemDisk, Fail>
-    ensures { IfOk result (λ disk. 16 ≤ calls_of disk) }
+fn stepped(alloc: Global, rt: &impl Abort) -> MemDisk
+    ensures { 16 ≤ calls_of result }
 {
-    let mut disk = MemDisk::new(alloc, 20, Vec::new(alloc))?;
-    if take_all(alloc, &mut disk, &STEPS)? != 16 {
-        return Err(Fail::new("16 calls"));
-    }
-    Ok(disk)
+    let mut disk = MemDisk::new(alloc, 20, Vec::new(alloc)).expect(rt, "memory");
+    let calls = take_all(alloc, rt, &mut disk, &STEPS);
+    assert!(rt; calls == 16);
+    disk
 }
 
 // Whether a crash leaves these names, and these bytes of the object 1.
-fn leaves(alloc: Global, disk: &MemDisk, image: Image) -> Result<bool, Fail>
+fn leaves(alloc: Global, rt: &impl Abort, disk: &MemDisk, image: Image) -> bool
     requires { image.0 ≤ calls_of disk.now }
 {
     let (moment, keep, names, bytes) = image;
-    let mut left = crashed(disk, moment, b'.', keep)?;
-    Ok(
-        answers(alloc, &mut left, Step::Names, names)
-            && answers(alloc, &mut left, Step::Read(1), bytes),
-    )
+    let mut left = crashed(rt, disk, moment, b'.', keep);
+    answers(alloc, &mut left, Step::Names, names) && answers(alloc, &mut left, Step::Read(1), bytes)
 }
 
-fn check_images(rt: &impl Abort, alloc: Global, disk: &MemDisk) -> Result<(), Fail>
+fn check_images(alloc: Global, rt: &impl Abort, disk: &MemDisk)
     requires { 16 ≤ calls_of disk.now }
 {
     for (moment, keep, names, bytes) in IMAGES {
         let image = (moment.min(16), keep, names, bytes);
-        assert!(rt; leaves(alloc, disk, image)?);
+        assert!(rt; leaves(alloc, rt, disk, image));
     }
-    Ok(())
 }
 
 #[test]
-fn a_crash_leaves_what_was_synced(rt: HostRuntime) -> Result<(), Fail> {
-    let disk = stepped(rt.alloc())?;
-    check_images(&rt, rt.alloc(), &disk)
+fn a_crash_leaves_what_was_synced(rt: HostRuntime) {
+    check_images(rt.alloc(), &rt, &stepped(rt.alloc(), &rt));
 }
 
 fn page(no: u64) -> Name
@@ -297,35 +298,32 @@ fn gives_twice<D: Disk>(alloc: Global, port: &mut D::Port, page: &D::Page, bytes
     first && second
 }
 
-// A disk with room for so many calls, and with the page 1. This takes two calls.
-fn disk_of_a_page(alloc: Global, room: u64, failing: Vec<u64>) -> Result<MemDisk, Fail> {
-    let mut disk = MemDisk::new(alloc, room, failing)?;
-    if create(alloc, &mut disk, page(1), b"abc")? != 2 {
-        return Err(Fail::new("a new page"));
-    }
-    Ok(disk)
+// Adds the page 1 to an empty disk. This takes two calls.
+fn add_page(alloc: Global, rt: &impl Abort, disk: &mut MemDisk) {
+    let calls = create(alloc, disk, page(1), b"abc").expect(rt, "a new page");
+    assert!(rt; calls == 2);
 }
 
-fn open_first(alloc: Global, disk: &mut MemDisk) -> Result<MemPage, Fail> {
-    Ok(open(alloc, disk, 1)?.ok_or("a page")?)
+fn open_first(alloc: Global, rt: &impl Abort, disk: &mut MemDisk) -> MemPage {
+    let opened = open(alloc, disk, 1).expect(rt, "a call");
+    opened.expect(rt, "a page")
 }
 
 // Whether there is no page 2, and the page 1 isn't opened for the first time.
-fn refuses_first(alloc: Global, disk: &mut MemDisk) -> Result<bool, Fail> {
-    Ok(open(alloc, disk, 2)?.is_none() && fails(open(alloc, disk, 1)))
+fn refuses_first(alloc: Global, disk: &mut MemDisk) -> bool {
+    matches!(open(alloc, disk, 2), Ok(None)) && fails(open(alloc, disk, 1))
 }
 
 // The page 1 as it is, and with other bytes.
-fn two_pages(alloc: Global, disk: &mut MemDisk) -> Result<(MemPage, MemPage), Fail> {
-    let old = open_first(alloc, disk)?;
-    if !disk.swap(page(1), b"new".to_vec(alloc)?) {
-        return Err(Fail::new("a page"));
-    }
-    Ok((old, open_first(alloc, disk)?))
+fn two_pages(alloc: Global, rt: &impl Abort, disk: &mut MemDisk) -> (MemPage, MemPage) {
+    let old = open_first(alloc, rt, disk);
+    let bytes = b"new".to_vec(alloc).expect(rt, "memory");
+    assert!(rt; disk.swap(page(1), bytes));
+    (old, open_first(alloc, rt, disk))
 }
 
-fn is_removed(alloc: Global, disk: &mut MemDisk) -> Result<bool, Fail> {
-    Ok(remove(alloc, disk, page(1))? == 2 && open(alloc, disk, 1)?.is_none())
+fn is_removed(alloc: Global, disk: &mut MemDisk) -> bool {
+    matches!(remove(alloc, disk, page(1)), Ok(2)) && matches!(open(alloc, disk, 1), Ok(None))
 }
 
 // Whether each page has its own bytes, the old one also behind the new.
@@ -337,23 +335,21 @@ fn keep_apart(alloc: Global, port: &mut MemPort, old: &MemPage, new: &MemPage) -
 }
 
 // Whether the pages keep their bytes where their object is removed.
-fn pages_keep(alloc: Global, disk: &mut MemDisk) -> Result<bool, Fail> {
-    let (old, new) = two_pages(alloc, disk)?;
-    if !is_removed(alloc, disk)? {
-        return Ok(false);
-    }
-    let mut port = disk.port(alloc)?;
-    Ok(keep_apart(alloc, &mut port, &old, &new))
+fn pages_keep(alloc: Global, rt: &impl Abort, disk: &mut MemDisk) -> bool {
+    let (old, new) = two_pages(alloc, rt, disk);
+    assert!(rt; is_removed(alloc, disk));
+    let mut port = disk.port(alloc).expect(rt, "a port");
+    keep_apart(alloc, &mut port, &old, &new)
 }
 
 #[test]
-fn a_page_keeps_the_bytes_that_it_had(rt: HostRuntime) -> Result<(), Fail> {
+fn a_page_keeps_the_bytes_that_it_had(rt: HostRuntime) {
     let alloc = rt.alloc();
     // The call that opens the page for the first time, the fifth, fails.
-    let mut disk = disk_of_a_page(alloc, 12, vec![in alloc; 5]?)?;
-    assert!(rt; refuses_first(alloc, &mut disk)?);
-    assert!(rt; pages_keep(alloc, &mut disk)? && disk.faults() == 1);
-    Ok(())
+    let mut disk = failing(alloc, &rt, 12, 5);
+    add_page(alloc, &rt, &mut disk);
+    assert!(rt; refuses_first(alloc, &mut disk));
+    assert!(rt; pages_keep(alloc, &rt, &mut disk) && disk.faults() == 1);
 }
 
 /// What the fetches of a port give, and how often it has failed by then.
@@ -367,38 +363,33 @@ fn fetches(alloc: Global, port: &mut FlakyPort, page: &MemPage, want: &[u8]) -> 
     }
 }
 
-fn check_port(rt: &impl Abort, alloc: Global, port: &mut FlakyPort, page: &MemPage) {
+fn check_port(alloc: Global, rt: &impl Abort, port: &mut FlakyPort, page: &MemPage) {
     for (want, faults) in FETCHES {
         assert!(rt; fetches(alloc, port, page, want) && FlakyDisk::port_faults(port) == faults);
     }
 }
 
-fn check_two_ports(
-    rt: &impl Abort,
-    alloc: Global,
-    disk: &mut FlakyDisk,
-    page: &MemPage,
-) -> Result<(), Fail> {
+fn check_two_ports(alloc: Global, rt: &impl Abort, disk: &mut FlakyDisk, page: &MemPage) {
     for _ in 0..2 {
-        let mut port = disk.port(alloc)?;
-        check_port(rt, alloc, &mut port, page);
+        let mut port = disk.port(alloc).expect(rt, "a port");
+        check_port(alloc, rt, &mut port, page);
     }
     assert!(rt; disk.faults() == 0);
-    Ok(())
 }
 
 // A disk whose ports fail at the second fetch and the third, and its page.
-fn flaky(alloc: Global) -> Result<(FlakyDisk, MemPage), Fail> {
-    let mut disk = disk_of_a_page(alloc, 5, Vec::new(alloc))?;
-    let page = open_first(alloc, &mut disk)?;
-    Ok((FlakyDisk::new(disk, vec![in alloc; 2, 3]?), page))
+fn flaky(alloc: Global, rt: &impl Abort) -> (FlakyDisk, MemPage) {
+    let mut disk = MemDisk::new(alloc, 5, Vec::new(alloc)).expect(rt, "memory");
+    add_page(alloc, rt, &mut disk);
+    let page = open_first(alloc, rt, &mut disk);
+    let failing = vec![in alloc; 2, 3].expect(rt, "memory");
+    (FlakyDisk::new(disk, failing), page)
 }
 
 #[test]
-fn each_port_fails_at_the_fetches_that_it_is_told(rt: HostRuntime) -> Result<(), Fail> {
-    let (mut disk, page) = flaky(rt.alloc())?;
-    check_two_ports(&rt, rt.alloc(), &mut disk, &page)?;
+fn each_port_fails_at_the_fetches_that_it_is_told(rt: HostRuntime) {
+    let (mut disk, page) = flaky(rt.alloc(), &rt);
+    check_two_ports(rt.alloc(), &rt, &mut disk, &page);
     let mut disk = disk.into_inner();
     assert!(rt; answers(rt.alloc(), &mut disk, Step::Names, &[1]));
-    Ok(())
 }

@@ -6,13 +6,15 @@ ghost use Rattle.lethe_commit.specs.Clear.{ArePresent};
 ghost use Rattle.lethe_commit.specs.Gates.{gate_name};
 ghost use Rattle.lethe_commit.specs.Switch.{manifest_name, IsFree};
 
-use crate::common::{SMALL, count_objects, crashed};
+use crate::common::{count_objects, crashed, must};
 use lethe_base::{Config, Kind, List, Name};
 use lethe_commit::{clear, switch};
 use lethe_disk::DiskRefused;
 use lethe_manifest::Manifest;
 use lethe_memdisk::MemDisk;
+use lethe_test_values::SMALL;
 use std::alloc::Global;
+use std::process::Abort;
 use std::test::Fail;
 
 // An empty disk. The calls of these numbers fail.
@@ -69,32 +71,34 @@ const IMAGES: [(u64, bool, usize); 7] = [
 ];
 
 // A disk behind such a switch.
-fn switched(alloc: Global) -> Result<MemDisk, Fail>
-    ensures { IfOk result (λ disk. 5 ≤ calls_of disk) }
+fn switched(alloc: Global, rt: &impl Abort) -> MemDisk
+    ensures { 5 ≤ calls_of result }
 {
-    let mut disk = empty_disk(alloc, Vec::new(alloc))?;
-    if !switch_to_new(alloc, &mut disk)? {
-        return Err(Fail::new("a switch"));
-    }
-    Ok(disk)
+    let mut disk = must(rt, empty_disk(alloc, Vec::new(alloc)));
+    let done = must(rt, switch_to_new(alloc, &mut disk));
+    assert!(rt; done);
+    disk
 }
 
 // How many objects a crash leaves.
-fn count_left(alloc: Global, disk: &MemDisk, moment: u64, keep: bool) -> Result<usize, Fail>
+fn count_left(alloc: Global, rt: &impl Abort, disk: &MemDisk, moment: u64, keep: bool) -> usize
     requires { moment ≤ calls_of disk.now }
 {
-    let mut left = crashed(disk, moment, 0, keep)?;
-    count_objects(alloc, &mut left)
+    let mut left = crashed(rt, disk, moment, 0, keep);
+    count_objects(alloc, rt, &mut left)
+}
+
+fn check_images(alloc: Global, rt: &impl Abort, disk: &MemDisk)
+    requires { 5 ≤ calls_of disk.now }
+{
+    for (calls, keep, objects) in IMAGES {
+        assert!(rt; count_left(alloc, rt, disk, calls.min(5), keep) == objects);
+    }
 }
 
 #[test]
-fn a_switch_that_a_crash_cuts_short_counts_from_its_gate_on(rt: HostRuntime) -> Result<(), Fail> {
-    let disk = switched(rt.alloc())?;
-    for (calls, keep, objects) in IMAGES {
-        let left = count_left(rt.alloc(), &disk, calls.min(5), keep)?;
-        assert!(rt; left == objects);
-    }
-    Ok(())
+fn a_switch_that_a_crash_cuts_short_counts_from_its_gate_on(rt: HostRuntime) {
+    check_images(rt.alloc(), &rt, &switched(rt.alloc(), &rt));
 }
 
 const GATE: Name = Name {
@@ -121,27 +125,28 @@ const FAILURES: [(u64, bool, bool, usize); 9] = [
 ];
 
 // Switches, and clears that behind it. Answers whether each is done.
-fn switch_and_clear(alloc: Global, disk: &mut MemDisk) -> Result<(bool, bool), Fail>
+fn switch_and_clear(alloc: Global, rt: &impl Abort, disk: &mut MemDisk) -> (bool, bool)
     requires { IsFree (seen_of disk.old) 2 None }
 {
-    if !switch_to_new(alloc, disk)? {
-        return Ok((false, false));
+    if must(rt, switch_to_new(alloc, disk)) {
+        (true, clear(disk, &[GATE, MANIFEST]).is_ok())
+    } else {
+        (false, false)
     }
-    Ok((true, clear(disk, &[GATE, MANIFEST]).is_ok()))
 }
 
 // The same where this call fails, and how many objects there are then.
-fn switch_failing(alloc: Global, failing: u64) -> Result<(bool, bool, usize), Fail> {
-    let mut disk = empty_disk(alloc, vec![in alloc; failing]?)?;
-    let (switched, cleared) = switch_and_clear(alloc, &mut disk)?;
-    Ok((switched, cleared, count_objects(alloc, &mut disk)?))
+fn switch_failing(alloc: Global, rt: &impl Abort, failing: u64) -> (bool, bool, usize) {
+    let failing = vec![in alloc; failing].expect(rt, "memory");
+    let mut disk = must(rt, empty_disk(alloc, failing));
+    let (switched, cleared) = switch_and_clear(alloc, rt, &mut disk);
+    (switched, cleared, count_objects(alloc, rt, &mut disk))
 }
 
 #[test]
-fn a_switch_and_a_clear_fail_where_the_disk_does(rt: HostRuntime) -> Result<(), Fail> {
+fn a_switch_and_a_clear_fail_where_the_disk_does(rt: HostRuntime) {
     for (failing, switched, cleared, objects) in FAILURES {
-        let done = switch_failing(rt.alloc(), failing)?;
+        let done = switch_failing(rt.alloc(), &rt, failing);
         assert!(rt; done == (switched, cleared, objects));
     }
-    Ok(())
 }

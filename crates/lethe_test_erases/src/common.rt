@@ -1,26 +1,15 @@
 //! A store of small files, what is asked of it, and what its disk holds.
 
-use lethe_base::{Body, Config, Fields, Key, Kind, Pick, Range, Value};
+use lethe_base::{Body, Config, Kind, Range, Value};
 use lethe_drive::{Engine, Event, Reply, Time, drive};
 use lethe_images::roomy_disk;
 use lethe_manifest::read_manifest;
 use lethe_memdisk::MemDisk;
 use lethe_page::read_page;
+use lethe_test_values::{SMALL, key_of, value_of};
 use std::alloc::Global;
 use std::marker::Model;
 use std::test::Fail;
-
-/// Pages of two entries, and buffers of four.
-const SMALL: Fields = Fields {
-    threshold: 100,
-    ratio: 2,
-    levels: 2,
-    page: 2,
-    tile: 2,
-    file: 2,
-    buffer: 4,
-    pick: Pick::So,
-};
 
 /// What is asked of a store. A put has a key and a delete key, and each value is the same.
 #[derive(Clone, Copy)]
@@ -39,12 +28,8 @@ pub enum Ask {
     Cancel(usize),
 }
 
-fn key_of(alloc: Global, text: &str) -> Result<Key, Fail> {
-    Ok(Key::new(text.as_bytes().to_vec(alloc)?)?)
-}
-
 fn put_of(alloc: Global, key: &str, dkey: u64) -> Result<Event, Fail> {
-    let value = Value::new(b"x".as_slice().to_vec(alloc)?)?;
+    let value = value_of(alloc, b"x")?;
     let key = key_of(alloc, key)?;
     Ok(Event::Put { key, dkey, value })
 }

@@ -5,12 +5,13 @@ ghost use Rattle.lethe_base.specs.Spelling.{HasSpelling};
 ghost use Rattle.lethe_build.specs.Drafts.{IsDraft};
 ghost use Rattle.lethe_header.specs.Headers.{HasSpelling as IsHeader};
 
-use crate::common::{FILE, PAGE_AC, PAGE_BD, key_of, value_of};
+use crate::common::{FILE, PAGE_AC, PAGE_BD};
 use crate::opening::header_of;
 use lethe_base::{Body, Config, Entry, Fields, List, MAX_PLACE, Pick, read_entry, write_entry};
 use lethe_build::{Built, Draft, drafts_of, numbers_for};
 use lethe_header::{Header, PageLine, write_header};
 use lethe_page::read_page;
+use lethe_test_values::{key_of, value_of};
 use lethe_tile::is_ascending;
 use std::alloc::Global;
 use std::process::Abort;
@@ -48,12 +49,12 @@ fn entry_of(alloc: Global, rt: &impl Abort, word: &str, seq: u64) -> Entry
     let (key, body, since) = match word.split_once('=') {
         Some((key, dkey)) => {
             let dkey = dkey.parse().expect(rt, "a delete key");
-            let value = value_of(alloc, rt, b"x");
+            let value = value_of(alloc, b"x").expect(rt, "a value");
             (key, Body::Put { dkey, value }, None)
         }
         None => (word.trim_end_matches('-'), Body::Tomb, Some(seq)),
     };
-    let key = key_of(alloc, rt, key);
+    let key = key_of(alloc, key).expect(rt, "a key");
     spelled(
         alloc,
         rt,

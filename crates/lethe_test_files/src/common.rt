@@ -1,7 +1,8 @@
 //! What several modules share: two pages and their file, keys and erases.
 
-use lethe_base::{Body, Entry, Key, Pending, Range, Value};
+use lethe_base::{Body, Entry, Pending, Range};
 use lethe_mem::{Buffer, VecBuffer};
+use lethe_test_values::value_of;
 use std::alloc::Global;
 use std::process::Abort;
 
@@ -17,22 +18,12 @@ pub const PAGE_BD: &[u8] =
 pub const FILE: &[u8] =
     b"LF\x01\0\0\0\0\0\0\0\x03\0\x01\x01a\x01d\x02\0\0\0\0\0\0\0\x01\x01\0\0\0\x02\0\0\0\0\0\0\0\x03\0\0\0\0\0\0\0\0\x0b\0\0\0\0\0\0\0\x0c\0\0\0\x01\x80\x0c\0@\x02\00\x01\xdc\x88\xef\x05\xe6\xb4-\x95N\x1e<\xce\xe8]\x12E\xb2h\x93<\xf1gAO\x99\x0e|V\x92]\x9cl\0\0\0\0\0\0\0\x02\x01\0\0\0\x02\0\0\0\0\0\0\0\x04\0\0\0\0\0\0\0\0\x0f\0\0\0\0\0\0\0\x1e\0\0\0\x01\x80\x1c\0\xe0\x06\00\x01[S\x8f(\xcd\xd3H\x17W\xba\x95\x98\xd2\xc1\xf9\xd4\xdf\x81\xa1\xdb\x7f\xe6\x1fQW\xb3\xc7r\x8b\xf6\xdb\xd4";
 
-pub fn key_of(alloc: Global, rt: &impl Abort, text: &str) -> Key {
-    let bytes = text.as_bytes().to_vec(alloc).expect(rt, "memory");
-    Key::new(bytes).expect(rt, "a key")
-}
-
-pub fn value_of(alloc: Global, rt: &impl Abort, bytes: &[u8]) -> Value {
-    let bytes = bytes.to_vec(alloc).expect(rt, "memory");
-    Value::new(bytes).expect(rt, "a value")
-}
-
 /// A put of the bytes with the delete key, or a tombstone.
 pub fn body_of(alloc: Global, rt: &impl Abort, dkey: Option<u64>, bytes: &[u8]) -> Body {
     match dkey {
         Some(dkey) => Body::Put {
             dkey,
-            value: value_of(alloc, rt, bytes),
+            value: value_of(alloc, bytes).expect(rt, "a value"),
         },
         None => Body::Tomb,
     }

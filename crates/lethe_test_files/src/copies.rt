@@ -1,17 +1,17 @@
 //! Copies of entries.
 
-use crate::common::{key_of, value_of};
 use lethe_base::{Body, Entry};
+use lethe_test_values::{key_of, value_of};
 use std::alloc::Global;
 use std::process::Abort;
 
 fn put_of(alloc: Global, rt: &impl Abort) -> Entry {
     Entry {
         seq: 7,
-        key: key_of(alloc, rt, "key"),
+        key: key_of(alloc, "key").expect(rt, "a key"),
         body: Body::Put {
             dkey: 5,
-            value: value_of(alloc, rt, b"value"),
+            value: value_of(alloc, b"value").expect(rt, "a value"),
         },
         since: Some(3),
     }

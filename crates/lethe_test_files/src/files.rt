@@ -1,7 +1,7 @@
 //! A file of two tiles on a disk in memory: written, found through, read in order, and its damaged pages told.
 
 use crate::build::config_of;
-use crate::common::{PAGE_AC, PAGE_BD, key_of};
+use crate::common::{PAGE_AC, PAGE_BD};
 use crate::opening::{damaged, found_in, header_of, open_file};
 use lethe_base::{Body, Entry, Key};
 use lethe_disk::{Cursor, ReadRefused};
@@ -9,6 +9,7 @@ use lethe_file::FileCursor;
 use lethe_header::write_header;
 use lethe_memdisk::{MemDisk, MemPort};
 use lethe_page::{read_page, write_page};
+use lethe_test_values::key_of;
 use lethe_tile::{Tile, is_ascending, weave};
 use std::alloc::Global;
 use std::process::Abort;
@@ -68,9 +69,15 @@ fn entries_between(
     lo: &str,
     hi: Option<&str>,
 ) -> Result<Vec<Entry>, ReadRefused> {
-    let lo = key_of(alloc, rt, lo);
+    let lo = key_of(alloc, lo).expect(rt, "a key");
     match hi {
-        Some(hi) => entries_from(alloc, rt, torn, &lo, Some(&key_of(alloc, rt, hi))),
+        Some(hi) => entries_from(
+            alloc,
+            rt,
+            torn,
+            &lo,
+            Some(&key_of(alloc, hi).expect(rt, "a key")),
+        ),
         None => entries_from(alloc, rt, torn, &lo, None),
     }
 }

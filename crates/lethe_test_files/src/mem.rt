@@ -1,8 +1,9 @@
 //! A buffer of entries.
 
-use crate::common::{insert, key_of, value_of};
+use crate::common::insert;
 use lethe_base::{Body, Entry, Key};
 use lethe_mem::{Buffer, VecBuffer, first_from};
+use lethe_test_values::{key_of, value_of};
 use std::alloc::Global;
 use std::process::Abort;
 
@@ -30,10 +31,10 @@ const KEPT: [(&str, u64, usize); 5] = [
 fn put_of(alloc: Global, rt: &impl Abort, key: &str, seq: u64) -> Entry {
     Entry {
         seq,
-        key: key_of(alloc, rt, key),
+        key: key_of(alloc, key).expect(rt, "a key"),
         body: Body::Put {
             dkey: seq,
-            value: value_of(alloc, rt, b""),
+            value: value_of(alloc, b"").expect(rt, "a value"),
         },
         since: None,
     }
@@ -69,7 +70,7 @@ fn has_at(buffer: &VecBuffer, key: &Key, place: usize, seq: u64) -> bool {
 
 fn check_kept(alloc: Global, rt: &impl Abort, buffer: &VecBuffer, copy: &VecBuffer) {
     for (place, (text, seq, lower)) in KEPT.into_iter().enumerate() {
-        let key = key_of(alloc, rt, text);
+        let key = key_of(alloc, text).expect(rt, "a key");
         let kept = has_at(buffer, &key, place, seq) && first_from(copy, &key) == lower;
         assert!(rt; kept, "{text}");
     }
@@ -77,7 +78,7 @@ fn check_kept(alloc: Global, rt: &impl Abort, buffer: &VecBuffer, copy: &VecBuff
 
 fn check_absent(alloc: Global, rt: &impl Abort, buffer: &VecBuffer) {
     for text in ["b", "aa", "y"] {
-        let key = key_of(alloc, rt, text);
+        let key = key_of(alloc, text).expect(rt, "a key");
         assert!(rt; buffer.find(&key).is_none(), "{text}");
     }
 }
@@ -107,6 +108,6 @@ fn a_buffer_keeps_the_last_entry_of_each_key_in_order(rt: HostRuntime) {
     let copy = copy_with_more(alloc, &rt, &buffer);
     check_kept(alloc, &rt, &buffer, &copy);
     check_absent(alloc, &rt, &buffer);
-    assert!(rt; has_more(&copy, &key_of(alloc, &rt, "m")));
-    assert!(rt; ends_before(&buffer, &key_of(alloc, &rt, "y")));
+    assert!(rt; has_more(&copy, &key_of(alloc, "m").expect(&rt, "a key")));
+    assert!(rt; ends_before(&buffer, &key_of(alloc, "y").expect(&rt, "a key")));
 }

@@ -2,11 +2,12 @@
 ghost use Rattle.std.specs.Prelude.{reverse};
 ghost use Rattle.lethe_base.specs.Entries.{IsAscending};
 
-use crate::common::{body_of, erase_of, key_of};
+use crate::common::{body_of, erase_of};
 use lethe_base::{Body, Entry, Pending};
 use lethe_disk::{Cursor, Disk, ReadRefused};
 use lethe_memdisk::{MemDisk, MemPort};
 use lethe_merge::{Merger, merge_entries, settle};
+use lethe_test_values::key_of;
 use lethe_tile::is_ascending;
 use std::alloc::Global;
 use std::process::Abort;
@@ -52,7 +53,7 @@ fn entry_of(alloc: Global, rt: &impl Abort, row: &Row) -> Entry {
     let (key, seq, dkey, since) = *row;
     Entry {
         seq,
-        key: key_of(alloc, rt, key),
+        key: key_of(alloc, key).expect(rt, "a key"),
         body: body_of(alloc, rt, dkey, b""),
         since,
     }

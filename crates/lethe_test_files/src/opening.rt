@@ -3,12 +3,12 @@ ghost use Rattle.std.specs.Prelude.{◌≡◌, ◌+◌, length};
 ghost use Rattle.lethe_header.specs.Facts.{lines_of};
 ghost use Rattle.lethe_header.specs.Headers.{HasSpelling};
 
-use crate::common::key_of;
 use lethe_base::{Entry, Kind, Name};
 use lethe_disk::{Disk, ReadRefused};
 use lethe_file::FileView;
 use lethe_header::{Header, PageLine, read_header};
 use lethe_memdisk::{MemDisk, MemPage, MemPort};
+use lethe_test_values::key_of;
 use std::alloc::Global;
 use std::process::Abort;
 use std::slice;
@@ -152,7 +152,7 @@ pub fn found_in(
     torn: &[u64],
     key: &str,
 ) -> Result<Option<Entry>, ReadRefused> {
-    let key = key_of(alloc, rt, key);
+    let key = key_of(alloc, key).expect(rt, "a key");
     let (file, mut port) = open_file(alloc, rt, header, pages, torn);
     file.find(alloc, &mut port, &key)
 }

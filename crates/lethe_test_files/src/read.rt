@@ -3,7 +3,7 @@ ghost use Rattle.std.specs.Prelude.{All};
 ghost use Rattle.lethe_base.specs.Spelling.{HasSpelling};
 
 use crate::build::{build_files, config_of, spelled};
-use crate::common::{body_of, erase_of, insert, key_of};
+use crate::common::{body_of, erase_of, insert};
 use crate::opening::{empty_disk, header_of, pages_on};
 use lethe_base::{Entry, Key, Pending, Value};
 use lethe_build::Built;
@@ -12,6 +12,7 @@ use lethe_file::FileView;
 use lethe_mem::VecBuffer;
 use lethe_memdisk::{FlakyDisk, FlakyPort, MemDisk, MemPort};
 use lethe_read::{get, scan};
+use lethe_test_values::key_of;
 use lethe_version::Version;
 use std::alloc::Global;
 use std::process::Abort;
@@ -29,7 +30,7 @@ fn entry_of(alloc: Global, rt: &impl Abort, row: &Row) -> Entry {
     let (key, seq, dkey) = *row;
     Entry {
         seq: seq as u64,
-        key: key_of(alloc, rt, key),
+        key: key_of(alloc, key).expect(rt, "a key"),
         body: body_of(alloc, rt, dkey, &[seq]),
         since: if dkey.is_none() {
             Some(seq as u64)
@@ -123,7 +124,13 @@ fn check_answer(
     row: (&str, Option<(u64, u8)>),
 ) {
     let (key, wanted) = row;
-    let answer = got(alloc, rt, store, erases, &key_of(alloc, rt, key));
+    let answer = got(
+        alloc,
+        rt,
+        store,
+        erases,
+        &key_of(alloc, key).expect(rt, "a key"),
+    );
     assert!(rt; is_answer(&answer, wanted), "{key}");
 }
 
@@ -159,8 +166,8 @@ fn check_scan(
     range: (&str, &str),
     wanted: &[Shown],
 ) {
-    let lo = key_of(alloc, rt, range.0);
-    let hi = key_of(alloc, rt, range.1);
+    let lo = key_of(alloc, range.0).expect(rt, "a key");
+    let hi = key_of(alloc, range.1).expect(rt, "a key");
     let pairs = scanned(alloc, rt, store, erases, &lo, &hi);
     assert!(rt; are_shown(&pairs, wanted), "from {}", range.0);
 }
@@ -323,8 +330,8 @@ fn lists_files(
     range: (&str, &str),
     wanted: &[Shown],
 ) -> Result<bool, ReadRefused> {
-    let lo = key_of(alloc, rt, range.0);
-    let hi = key_of(alloc, rt, range.1);
+    let lo = key_of(alloc, range.0).expect(rt, "a key");
+    let hi = key_of(alloc, range.1).expect(rt, "a key");
     let pairs = scan_files(alloc, port, version, &lo, &hi);
     pairs.map(|pairs| are_shown(&pairs, wanted))
 }

@@ -3,13 +3,14 @@ ghost use Rattle.std.specs.Prelude.{All};
 ghost use Rattle.lethe_base.specs.Spelling.{HasSpelling};
 
 use crate::build::{build_files, config_of, spelled};
-use crate::common::{FILE, PAGE_AC, PAGE_BD, key_of};
+use crate::common::{FILE, PAGE_AC, PAGE_BD};
 use crate::opening::{add_file, empty_disk, open_file};
 use lethe_base::{Body, Entry};
 use lethe_build::Built;
 use lethe_disk::Disk;
 use lethe_file::FileView;
 use lethe_memdisk::{MemDisk, MemPort};
+use lethe_test_values::key_of;
 use lethe_version::Version;
 use std::alloc::Global;
 use std::process::Abort;
@@ -41,7 +42,7 @@ fn one_file(alloc: Global, rt: &impl Abort) -> Version<MemDisk> {
 }
 
 fn check_told(alloc: Global, rt: &impl Abort, version: &Version<MemDisk>, key: &str, told: bool) {
-    let may_hold = version.may_hold(&key_of(alloc, rt, key));
+    let may_hold = version.may_hold(&key_of(alloc, key).expect(rt, "a key"));
     assert_eq!(rt; may_hold, told, "{key}");
 }
 
@@ -72,7 +73,7 @@ fn tombstone(alloc: Global, rt: &impl Abort, key: &str, seq: u64, since: u64) ->
         rt,
         Entry {
             seq,
-            key: key_of(alloc, rt, key),
+            key: key_of(alloc, key).expect(rt, "a key"),
             body: Body::Tomb,
             since: Some(since),
         },
@@ -174,7 +175,7 @@ fn found(
     version: &Version<MemDisk>,
     port: &mut MemPort,
 ) -> Option<u64> {
-    let key = key_of(alloc, rt, "a");
+    let key = key_of(alloc, "a").expect(rt, "a key");
     let entry = version.find(alloc, port, &key).expect(rt, "an answer");
     entry.and_then(|entry| entry.since)
 }

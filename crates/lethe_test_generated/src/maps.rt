@@ -1,5 +1,6 @@
 //! Generated scripts, which print what a plain map gives.
 
+use crate::runs::answered;
 use lethe_generated::Generated;
 use lethe_images::roomy_disk;
 use std::alloc::Global;
@@ -9,7 +10,7 @@ use std::test::Fail;
 fn prints_what_a_map_gives(alloc: Global, made: &Generated) -> Result<(), Fail> {
     let mut disk = roomy_disk(alloc)?;
     for lines in &made.parts {
-        disk = made.answered(alloc, lines, disk)?;
+        disk = answered(alloc, made, lines, disk)?;
     }
     Ok(())
 }

@@ -1,5 +1,6 @@
 //! A generated script whose disk is stopped at each device call, crashed, and run over again.
 
+use crate::runs::run;
 use lethe_disk::Disk;
 use lethe_generated::{Generated, READ_AND_PUT};
 use lethe_images::{IMAGES, image_of, roomy_disk, take_calls};
@@ -32,7 +33,7 @@ fn run_all(alloc: Global, made: &Generated, mut disk: MemDisk) -> Result<(Owed, 
     };
     for lines in &made.parts {
         if disk.faults() == 0 {
-            let left = made.run(alloc, &lines.script, disk)?;
+            let left = run(alloc, made, &lines.script, disk)?;
             owed.add(&left.printed.text);
             disk = left.disk;
         }
@@ -74,7 +75,7 @@ fn must_be_owed(
 
 // Opens a disk that was left for this, reads all of it, and makes one more put.
 fn goes_on(alloc: Global, made: &Generated, owed: Owed, disk: MemDisk) -> Result<(), Fail> {
-    let left = made.run(alloc, READ_AND_PUT, disk)?;
+    let left = run(alloc, made, READ_AND_PUT, disk)?;
     must_be_owed(alloc, made, owed, &left.printed)
 }
 

@@ -1,29 +1,11 @@
 //! What the tests of merges and sweeps share.
 
-use lethe_base::{Config, Fields, Key, Pick, Shape};
+use lethe_base::{Config, Fields, Shape};
 use lethe_fade::{Claim, Plan, pick, pick_due};
-use std::alloc::Global;
 use std::process::Abort;
-
-/// A small configuration, whose level 1 is saturated by more than 16 entries.
-pub const SMALL: Fields = Fields {
-    threshold: 100,
-    ratio: 2,
-    levels: 2,
-    page: 2,
-    tile: 2,
-    file: 2,
-    buffer: 4,
-    pick: Pick::So,
-};
 
 pub fn config_of(rt: &impl Abort, fields: Fields) -> Config {
     Config::new(fields).expect(rt, "a configuration")
-}
-
-pub fn key_of(alloc: Global, rt: &impl Abort, text: &str) -> Key {
-    let bytes = text.as_bytes().to_vec(alloc).expect(rt, "memory");
-    Key::new(bytes).expect(rt, "a key")
 }
 
 /// A file, and the place of an erase where it is swept.

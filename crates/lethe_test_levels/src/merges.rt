@@ -1,8 +1,9 @@
 //! The time of each level, and which merge is picked.
 
-use crate::common::{SMALL, config_of, key_of, picked};
+use crate::common::{config_of, picked};
 use lethe_base::{Fields, FileFacts, List, Pick, Shape};
 use lethe_fade::{Claim, cum};
+use lethe_test_values::{SMALL, key_of};
 use std::alloc::Global;
 use std::process::Abort;
 
@@ -17,8 +18,8 @@ fn facts_of(alloc: Global, rt: &impl Abort, row: &Row) -> FileFacts {
     FileFacts {
         no,
         level,
-        lo: key_of(alloc, rt, lo),
-        hi: key_of(alloc, rt, hi),
+        lo: key_of(alloc, lo).expect(rt, "a key"),
+        hi: key_of(alloc, hi).expect(rt, "a key"),
         oldest,
         tombs,
         entries,
@@ -55,8 +56,8 @@ fn claim_of(alloc: Global, rt: &impl Abort, row: &ClaimRow) -> Claim {
     Claim {
         first,
         last,
-        lo: key_of(alloc, rt, lo),
-        hi: key_of(alloc, rt, hi),
+        lo: key_of(alloc, lo).expect(rt, "a key"),
+        hi: key_of(alloc, hi).expect(rt, "a key"),
     }
 }
 

@@ -1,8 +1,9 @@
 //! Which sweep is picked.
 
-use crate::common::{Named, SMALL, key_of, picked};
+use crate::common::{Named, picked};
 use lethe_base::{FileFacts, List, Pending, Range, Shape};
 use lethe_fade::Claim;
+use lethe_test_values::{SMALL, key_of};
 use std::alloc::Global;
 use std::process::Abort;
 
@@ -27,8 +28,8 @@ fn facts_of(alloc: Global, rt: &impl Abort, row: &FileRow) -> FileFacts {
     FileFacts {
         no,
         level,
-        lo: key_of(alloc, rt, lo),
-        hi: key_of(alloc, rt, hi),
+        lo: key_of(alloc, lo).expect(rt, "a key"),
+        hi: key_of(alloc, hi).expect(rt, "a key"),
         oldest,
         tombs,
         entries: 4,
@@ -77,8 +78,8 @@ fn claim_of(alloc: Global, rt: &impl Abort, row: &ClaimRow) -> Claim {
     Claim {
         first: level,
         last: level,
-        lo: key_of(alloc, rt, lo),
-        hi: key_of(alloc, rt, hi),
+        lo: key_of(alloc, lo).expect(rt, "a key"),
+        hi: key_of(alloc, hi).expect(rt, "a key"),
     }
 }
 

@@ -2,12 +2,13 @@
 ghost use Rattle.lethe_core.specs.Running.{IsSound};
 ghost use Rattle.lethe_core.specs.View.{view_of};
 
-use lethe_base::{Config, Fields, Key, MAX_TIME, Pick, Range, Refused, Value};
+use lethe_base::{Config, MAX_TIME, Range, Refused, Value};
 use lethe_disk::Disk;
 use lethe_drive::{Event, Reply, drive};
 use lethe_engine::{Engine, Ticked};
 use lethe_images::{Held, held_by, roomy_disk};
 use lethe_memdisk::MemDisk;
+use lethe_test_values::{SMALL, key_of, value_of};
 use std::alloc::Global;
 use std::marker::Model;
 use std::process::Abort;
@@ -15,18 +16,6 @@ use std::test::Fail;
 
 /// The threshold of its configuration. Level 0 may have a value for 33 behind its erase, and level 1 for 100.
 pub const THRESHOLD: u64 = 100;
-
-/// Pages of two entries, and buffers of four.
-const SMALL: Fields = Fields {
-    threshold: 100,
-    ratio: 2,
-    levels: 2,
-    page: 2,
-    tile: 2,
-    file: 2,
-    buffer: 4,
-    pick: Pick::So,
-};
 
 /// What is asked of a store. A put has a key, a delete key and a value.
 #[derive(Clone, Copy)]
@@ -51,16 +40,6 @@ pub fn new_disk(alloc: Global, rt: &impl Abort) -> MemDisk {
 /// What the objects of the disk hold.
 pub fn held_on(alloc: Global, rt: &impl Abort, disk: &mut MemDisk) -> Held {
     must(rt, held_by(alloc, disk))
-}
-
-fn key_of(alloc: Global, rt: &impl Abort, text: &str) -> Key {
-    let bytes = text.as_bytes().to_vec(alloc).expect(rt, "memory");
-    Key::new(bytes).expect(rt, "a key")
-}
-
-fn value_of(alloc: Global, rt: &impl Abort, text: &str) -> Value {
-    let bytes = text.as_bytes().to_vec(alloc).expect(rt, "memory");
-    Value::new(bytes).expect(rt, "a value")
 }
 
 /// A store under test. That it is sound stands in its model, so its callers have nothing to prove. Each call has a port of its own.
@@ -107,14 +86,14 @@ impl<D: Disk> Store<D> {
         dkey: u64,
         value: &str,
     ) -> Result<u64, Refused> {
-        let key = key_of(alloc, rt, key);
-        let value = value_of(alloc, rt, value);
+        let key = key_of(alloc, key).expect(rt, "a key");
+        let value = value_of(alloc, value.as_bytes()).expect(rt, "a value");
         let mut port = self.port(alloc, rt);
         self.engine.put(alloc, &mut port, key, dkey, value)
     }
 
     pub fn delete(&mut self, alloc: Global, rt: &impl Abort, key: &str) -> Result<u64, Refused> {
-        let key = key_of(alloc, rt, key);
+        let key = key_of(alloc, key).expect(rt, "a key");
         let mut port = self.port(alloc, rt);
         self.engine.delete(alloc, &mut port, key)
     }
@@ -150,7 +129,7 @@ impl<D: Disk> Store<D> {
 
     /// The delete key and the value of a key.
     pub fn get(&mut self, alloc: Global, rt: &impl Abort, key: &str) -> Option<(u64, Value)> {
-        let key = key_of(alloc, rt, key);
+        let key = key_of(alloc, key).expect(rt, "a key");
         let mut port = self.port(alloc, rt);
         let got = self.engine.get(alloc, &mut port, &key);
         got.expect(rt, "an answer")

@@ -1,16 +1,14 @@
 //! What is asked of a store and of the snapshots that are held of it.
-ghost use Rattle.lethe_core.specs.Running.{IsSound};
-ghost use Rattle.lethe_core.specs.View.{view_of};
 
-use crate::common::{is_value, key_of, new_value, opened};
-use lethe_base::{Key, MAX_TIME, Refused};
+use crate::common::{Store, is_value};
+use lethe_base::{Key, Refused, Value};
 use lethe_disk::Disk;
-use lethe_drive::{Event, Reply, drive};
-use lethe_engine::Engine;
+use lethe_drive::{Event, Reply};
 use lethe_pins::Pins;
 use lethe_snapshot::Snapshot;
+use lethe_test_values::key_of;
 use std::alloc::Global;
-use std::test::Fail;
+use std::process::Abort;
 
 /// Which of two snapshots.
 #[derive(Clone, Copy)]
@@ -56,13 +54,6 @@ fn told_place(answer: Result<u64, Refused>) -> Told {
     }
 }
 
-fn told_done<T: Drop>(answer: Result<T, Refused>) -> Told {
-    match answer {
-        Ok(_) => Told::Done,
-        Err(why) => Told::Refused(why),
-    }
-}
-
 /// The snapshots that are held.
 pub struct Held<D: Disk> {
     one: Option<Snapshot<D>>,
@@ -96,106 +87,77 @@ impl<D: Disk> Held<D> {
     }
 }
 
-fn put<D: Disk>(
-    alloc: Global,
-    engine: &mut Engine<D>,
-    text: &str,
-) -> Result<Result<u64, Refused>, Fail>
-    requires { IsSound D.tells (view_of engine.old.core) }
-    ensures { IsSound D.tells (view_of engine.new.core) }
-{
-    let (key, value) = (key_of(alloc, text)?, new_value(alloc)?);
-    let mut port = engine.new_port(alloc)?;
-    Ok(engine.put(alloc, &mut port, key, 7, value))
-}
-
-fn delete<D: Disk>(alloc: Global, engine: &mut Engine<D>, text: &str) -> Result<Told, Fail>
-    requires { IsSound D.tells (view_of engine.old.core) }
-    ensures { IsSound D.tells (view_of engine.new.core) }
-{
-    let key = key_of(alloc, text)?;
-    let mut port = engine.new_port(alloc)?;
-    Ok(told_place(engine.delete(alloc, &mut port, key)))
-}
-
-/// Puts the keys up to one that is refused.
+/// Puts the keys up to one that is refused, and tells why it is.
 fn put_all<D: Disk>(
     alloc: Global,
-    engine: &mut Engine<D>,
+    rt: &impl Abort,
+    store: &mut Store<D>,
     keys: &[&str],
-) -> Result<Option<Refused>, Fail>
-    requires { IsSound D.tells (view_of engine.old.core) }
-    ensures { IsSound D.tells (view_of engine.new.core) }
-{
-    for text in keys {
-        if let Err(why) = put(alloc, engine, *text)? {
-            return Ok(Some(why));
+) -> Option<Refused> {
+    for key in keys {
+        if let Err(why) = store.put(alloc, rt, *key) {
+            return Some(why);
         }
     }
-    Ok(None)
+    None
 }
 
-fn file<D: Disk>(alloc: Global, engine: &mut Engine<D>, keys: &[&str]) -> Result<Told, Fail>
-    requires { IsSound D.tells (view_of engine.old.core) }
-    ensures { IsSound D.tells (view_of engine.new.core) }
-{
-    if let Some(why) = put_all(alloc, engine, keys)? {
-        return Ok(Told::Refused(why));
+/// Freezes the buffer, and flushes it.
+fn flush_all<D: Disk>(alloc: Global, store: &mut Store<D>) -> Told {
+    if let Err(why) = store.freeze(alloc) {
+        return Told::Refused(why);
     }
-    match engine.freeze(alloc) {
-        Ok(_) => Ok(told_done(engine.flush(alloc))),
-        Err(why) => Ok(Told::Refused(why)),
+    match store.flush(alloc) {
+        Ok(_) => Told::Done,
+        Err(why) => Told::Refused(why),
     }
 }
 
-fn told_job(replies: &[Reply]) -> Result<Told, Fail> {
+fn file<D: Disk>(alloc: Global, rt: &impl Abort, store: &mut Store<D>, keys: &[&str]) -> Told {
+    match put_all(alloc, rt, store, keys) {
+        Some(why) => Told::Refused(why),
+        None => flush_all(alloc, store),
+    }
+}
+
+fn told_job(rt: &impl Abort, replies: &[Reply]) -> Told {
     match (replies.first(), replies.last()) {
-        (Some(Reply::Job(_)), Some(Reply::Unit)) => Ok(Told::Done),
-        (Some(Reply::Refused(why)), _) | (_, Some(Reply::Refused(why))) => Ok(Told::Refused(*why)),
-        _ => Err(Fail::new("a job")),
+        (Some(Reply::Job(_)), Some(Reply::Unit)) => Told::Done,
+        (Some(Reply::Refused(why)), _) | (_, Some(Reply::Refused(why))) => Told::Refused(*why),
+        _ => panic!(rt; "no job"),
     }
 }
 
-fn job<D: Disk>(alloc: Global, engine: &mut Engine<D>) -> Result<Told, Fail>
-    requires { IsSound D.tells (view_of engine.old.core) }
-    ensures { IsSound D.tells (view_of engine.new.core) }
-{
-    let mut port = engine.new_port(alloc)?;
-    let events = vec![in alloc; Event::Begin, Event::Install { job: 0 }]?;
-    let replies = drive(engine, alloc, &mut port, events)?;
-    told_job(&replies)
+fn job<D: Disk>(alloc: Global, rt: &impl Abort, store: &mut Store<D>) -> Told {
+    let events = vec![in alloc; Event::Begin, Event::Install { job: 0 }].expect(rt, "memory");
+    let replies = store.drive(alloc, rt, events);
+    told_job(rt, &replies)
 }
 
-fn tick<D: Disk>(alloc: Global, engine: &mut Engine<D>, to: u64) -> Result<Told, Fail>
-    requires { IsSound D.tells (view_of engine.old.core) }
-    ensures { IsSound D.tells (view_of engine.new.core) }
-{
-    if to > MAX_TIME {
-        return Err(Fail::new("a time"));
-    }
-    let mut port = engine.new_port(alloc)?;
-    match engine.tick(alloc, &mut port, to) {
+fn tick<D: Disk>(alloc: Global, rt: &impl Abort, store: &mut Store<D>, to: u64) -> Told {
+    match store.tick(alloc, rt, to) {
         Ok(ticked) => {
             let number = ticked.certificate.map(|certificate| certificate.number);
-            Ok(Told::Ticked(ticked.place, number))
+            Told::Ticked(ticked.place, number)
         }
-        Err(why) => Ok(Told::Refused(why)),
+        Err(why) => Told::Refused(why),
     }
 }
 
-fn pin<D: Disk>(alloc: Global, engine: &mut Engine<D>, place: &mut Option<Snapshot<D>>) -> Told
-    requires { IsSound D.tells (view_of engine.old.core) }
-    ensures { IsSound D.tells (view_of engine.new.core) }
-{
-    match engine.pin(alloc) {
+fn told_pin<D: Disk>(snapshot: &Snapshot<D>) -> Told {
+    Told::Pin {
+        number: snapshot.number(),
+        point: snapshot.point(),
+        limit: snapshot.limit(),
+    }
+}
+
+fn pin<D: Disk>(alloc: Global, store: &mut Store<D>, place: &mut Option<Snapshot<D>>) -> Told {
+    match store.pin(alloc) {
         Ok(snapshot) => {
-            let told = Told::Pin {
-                number: snapshot.number(),
-                point: snapshot.point(),
-                limit: snapshot.limit(),
-            };
+            let told = told_pin(&snapshot);
             if let Some(before) = place.replace(snapshot) {
-                engine.release(before);
+                store.release(before);
             }
             told
         }
@@ -203,12 +165,9 @@ fn pin<D: Disk>(alloc: Global, engine: &mut Engine<D>, place: &mut Option<Snapsh
     }
 }
 
-fn release<D: Disk>(engine: &mut Engine<D>, place: &mut Option<Snapshot<D>>) -> Told
-    requires { IsSound D.tells (view_of engine.old.core) }
-    ensures { IsSound D.tells (view_of engine.new.core) }
-{
+fn release<D: Disk>(store: &mut Store<D>, place: &mut Option<Snapshot<D>>) -> Told {
     if let Some(snapshot) = place.take() {
-        engine.release(snapshot);
+        store.release(snapshot);
     }
     Told::Done
 }
@@ -218,6 +177,10 @@ const FAULT: Refused = Refused::ReadFault {
     after: 1,
 };
 
+fn is_put(found: &Option<(u64, Value)>) -> bool {
+    matches!(found, Some((7, value)) if is_value(value.bytes()))
+}
+
 /// Whether the snapshot has the key with its value.
 fn has<D: Disk>(
     alloc: Global,
@@ -225,105 +188,86 @@ fn has<D: Disk>(
     snapshot: &Snapshot<D>,
     key: &Key,
 ) -> Result<bool, Refused> {
-    let found = snapshot.get(alloc, port, key)?;
-    Ok(matches!(&found, Some((7, value)) if is_value(value)))
+    let found = snapshot.get(alloc, port, key);
+    found.map(|found| is_put(&found))
 }
 
 /// Whether the snapshot has the key with its value, and whether it was read once more, since a fetch failed.
 fn read<D: Disk>(
     alloc: Global,
+    rt: &impl Abort,
     port: &mut D::Port,
     snapshot: &Snapshot<D>,
-    text: &str,
-) -> Result<(bool, bool), Fail> {
-    let key = key_of(alloc, text)?;
-    match has(alloc, port, snapshot, &key) {
-        Ok(there) => Ok((there, false)),
-        Err(why) if why == FAULT => match has(alloc, port, snapshot, &key) {
-            Ok(true) => Ok((true, true)),
-            _ => Err(Fail::new("read again")),
-        },
-        Err(_) => Err(Fail::new("not read")),
+    key: &Key,
+) -> (bool, bool) {
+    match has(alloc, port, snapshot, key) {
+        Ok(there) => (there, false),
+        Err(why) => {
+            let again = has(alloc, port, snapshot, key);
+            assert!(rt; why == FAULT && matches!(again, Ok(true)));
+            (true, true)
+        }
     }
 }
 
 fn read_all<D: Disk>(
     alloc: Global,
-    engine: &mut Engine<D>,
+    rt: &impl Abort,
+    store: &mut Store<D>,
     place: &Option<Snapshot<D>>,
     keys: &[&str],
-) -> Result<Told, Fail>
-    requires { IsSound D.tells (view_of engine.old.core) }
-    ensures { IsSound D.tells (view_of engine.new.core) }
-{
-    let Some(snapshot) = place else {
-        return Err(Fail::new("no snapshot"));
-    };
-    let mut port = engine.new_port(alloc)?;
+) -> Told {
+    let snapshot = place.as_ref().expect(rt, "a snapshot");
+    let mut port = store.port(alloc, rt);
     let mut there: usize = 0;
     let mut again: usize = 0;
     for text in keys {
-        let (is_there, is_again) = read(alloc, &mut port, snapshot, *text)?;
+        let key = key_of(alloc, *text).expect(rt, "a key");
+        let (is_there, is_again) = read(alloc, rt, &mut port, snapshot, &key);
         there = there.saturating_add(usize::from(is_there));
         again = again.saturating_add(usize::from(is_again));
     }
-    Ok(Told::Read(there, again))
+    Told::Read(there, again)
 }
 
 fn answer<D: Disk>(
     alloc: Global,
-    engine: &mut Engine<D>,
+    rt: &impl Abort,
+    store: &mut Store<D>,
     held: &mut Held<D>,
     ask: Ask,
-) -> Result<Told, Fail>
-    requires { IsSound D.tells (view_of engine.old.core) }
-    ensures { IsSound D.tells (view_of engine.new.core) }
-{
+) -> Told {
     match ask {
-        Ask::Put(text) => Ok(told_place(put(alloc, engine, text)?)),
-        Ask::Delete(text) => delete(alloc, engine, text),
-        Ask::File(keys) => file(alloc, engine, keys),
-        Ask::Job => job(alloc, engine),
-        Ask::Tick(to) => tick(alloc, engine, to),
-        Ask::Pin(which) => Ok(pin(alloc, engine, held.at(which))),
-        Ask::Release(which) => Ok(release(engine, held.at(which))),
-        Ask::Read(which, keys) => read_all(alloc, engine, held.at(which), keys),
+        Ask::Put(key) => told_place(store.put(alloc, rt, key)),
+        Ask::Delete(key) => told_place(store.delete(alloc, rt, key)),
+        Ask::File(keys) => file(alloc, rt, store, keys),
+        Ask::Job => job(alloc, rt, store),
+        Ask::Tick(to) => tick(alloc, rt, store, to),
+        Ask::Pin(which) => pin(alloc, store, held.at(which)),
+        Ask::Release(which) => release(store, held.at(which)),
+        Ask::Read(which, keys) => read_all(alloc, rt, store, held.at(which), keys),
     }
-}
-
-fn answer_all<D: Disk>(
-    alloc: Global,
-    engine: &mut Engine<D>,
-    held: &mut Held<D>,
-    asks: &[Ask],
-) -> Result<Vec<Told>, Fail>
-    requires { IsSound D.tells (view_of engine.old.core) }
-    ensures { IsSound D.tells (view_of engine.new.core) }
-{
-    let mut told = Vec::new(alloc);
-    for ask in asks {
-        told.push(answer(alloc, engine, held, *ask)?)?;
-    }
-    Ok(told)
 }
 
 /// What a store tells to these, and its disk behind them, while what was pinned and not released is held.
 pub fn told_by<D: Disk>(
     alloc: Global,
-    store: Engine<D>,
+    rt: &impl Abort,
+    mut store: Store<D>,
     asks: &[Ask],
-) -> Result<(Vec<Told>, D), Fail>
-    requires { IsSound D.tells (view_of store.core) }
-{
-    let mut engine = store;
+) -> (Vec<Told>, D) {
     let mut held = Held::new();
-    let told = answer_all(alloc, &mut engine, &mut held, asks);
-    let disk = engine.into_disk();
+    let mut told = Vec::new(alloc);
+    for ask in asks {
+        let answer = answer(alloc, rt, &mut store, &mut held, *ask);
+        told.push(answer).expect(rt, "memory");
+    }
+    let disk = store.into_disk();
     held.let_go(alloc);
-    Ok((told?, disk))
+    (told, disk)
 }
 
 /// The same of the store of a disk.
-pub fn told_over<D: Disk>(alloc: Global, disk: D, asks: &[Ask]) -> Result<(Vec<Told>, D), Fail> {
-    told_by(alloc, opened(alloc, disk)?, asks)
+pub fn told_over<D: Disk>(alloc: Global, rt: &impl Abort, disk: D, asks: &[Ask]) -> (Vec<Told>, D) {
+    told_by(alloc, rt, Store::opened(alloc, rt, disk), asks)
 }

@@ -4,7 +4,7 @@ use crate::asks::{Ask, Told, Which, told_over};
 use crate::common::{empty_disk, holds_value};
 use lethe_base::Refused;
 use std::alloc::Global;
-use std::test::Fail;
+use std::process::Abort;
 
 /// What is asked, what is told, and whether an object has a value then.
 type Row = (Ask, Told, bool);
@@ -78,48 +78,47 @@ const TWO: [Row; 12] = [
 ];
 
 /// What is asked up to that row.
-pub fn asks_of(alloc: Global, rows: &[Row], count: usize) -> Result<Vec<Ask>, Fail> {
+pub fn asks_of(alloc: Global, rt: &impl Abort, rows: &[Row], count: usize) -> Vec<Ask> {
     let mut asks = Vec::new(alloc);
     for (ask, _, _) in rows.iter().take(count) {
-        asks.push(*ask)?;
+        asks.push(*ask).expect(rt, "memory");
     }
-    Ok(asks)
+    asks
 }
 
-/// Whether an object has a value behind what was told. Fails where a row wants something else.
-fn value_behind(told: &[Told], rows: &[Row]) -> Result<bool, Fail> {
-    let mut last = false;
-    for (given, (_, wanted, value)) in told.iter().zip(rows) {
-        if *given != *wanted {
-            return Err(Fail::new(format_args!("{given:?} in place of {wanted:?}")));
-        }
-        last = *value;
-    }
-    Ok(last)
+/// Whether that is told up to that row.
+fn are_told(told: &[Told], rows: &[Row], count: usize) -> bool {
+    told.len() == count && told.iter().zip(rows).all(|(told, row)| *told == row.1)
 }
 
-/// Whether that many of the rows go so.
-fn go_so(alloc: Global, rows: &[Row], count: usize) -> Result<bool, Fail> {
-    let asks = asks_of(alloc, rows, count)?;
-    let (told, mut disk) = told_over(alloc, empty_disk(alloc)?, &asks)?;
-    let wanted = value_behind(&told, rows)?;
-    Ok(told.len() == count && holds_value(alloc, &mut disk)? == wanted)
+/// Whether an object has a value behind so many rows.
+fn has_behind(rows: &[Row], count: usize) -> bool {
+    let mut has = false;
+    for (_, _, value) in rows.iter().take(count) {
+        has = *value;
+    }
+    has
+}
+
+/// That many of the rows have to go so.
+fn check_rows(alloc: Global, rt: &impl Abort, rows: &[Row], count: usize) {
+    let asks = asks_of(alloc, rt, rows, count);
+    let (told, mut disk) = told_over(alloc, rt, empty_disk(alloc, rt), &asks);
+    assert!(rt; are_told(&told, rows, count), "behind {count}");
+    let holds = holds_value(alloc, rt, &mut disk);
+    assert!(rt; holds == has_behind(rows, count), "behind {count}");
 }
 
 #[test]
-fn a_pin_bars_ticks_from_its_limit_on(rt: HostRuntime) -> Result<(), Fail> {
-    let alloc = rt.alloc();
+fn a_pin_bars_ticks_from_its_limit_on(rt: HostRuntime) {
     for count in 0..=DELETED.len() {
-        assert!(rt; go_so(alloc, &DELETED, count)?, "behind {count}");
+        check_rows(rt.alloc(), &rt, &DELETED, count);
     }
-    Ok(())
 }
 
 #[test]
-fn the_least_limit_of_two_pins_bars_a_tick(rt: HostRuntime) -> Result<(), Fail> {
-    let alloc = rt.alloc();
+fn the_least_limit_of_two_pins_bars_a_tick(rt: HostRuntime) {
     for count in 0..=TWO.len() {
-        assert!(rt; go_so(alloc, &TWO, count)?, "behind {count}");
+        check_rows(rt.alloc(), &rt, &TWO, count);
     }
-    Ok(())
 }

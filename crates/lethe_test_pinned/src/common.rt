@@ -1,78 +1,150 @@
-//! A store of small files, and what its disk holds.
-ghost use Rattle.std.specs.Prelude.{IfOk};
-ghost use Rattle.lethe_core.specs.Running.{IsSound};
-ghost use Rattle.lethe_core.specs.View.{view_of};
+//! A store of small files, the calls that its tests make, and what its disk holds.
+ghost use Rattle.std.specs.Prelude.{◌≡◌, Ok};
 
-use lethe_base::{Config, Fields, Key, Kind, Name, Pick, Value};
+use lethe_base::{Config, Kind, MAX_TIME, Name, Refused};
 use lethe_disk::Disk;
-use lethe_engine::Engine;
-use lethe_images::objects_of;
+use lethe_drive::{Event, Reply, drive};
+use lethe_engine::{Engine, OpenRefused, Ticked};
+use lethe_images::{objects_of, roomy_disk};
 use lethe_memdisk::MemDisk;
+use lethe_snapshot::Snapshot;
+use lethe_test_values::{SMALL, key_of, value_of};
 use std::alloc::Global;
+use std::marker::Model;
+use std::process::Abort;
 use std::test::Fail;
-
-/// Pages of two entries, and buffers of four.
-const SMALL: Fields = Fields {
-    threshold: 100,
-    ratio: 2,
-    levels: 2,
-    page: 2,
-    tile: 2,
-    file: 2,
-    buffer: 4,
-    pick: Pick::So,
-};
 
 /// The value of each put.
 const VALUE: &[u8] = b"12 Elm Street";
 
-/// An empty disk, with room for many calls.
-pub fn empty_disk(alloc: Global) -> Result<MemDisk, Fail> {
-    Ok(MemDisk::new(alloc, 20_000, Vec::new(alloc))?)
-}
-
-pub fn small() -> Result<Config, Fail> {
-    Ok(Config::new(SMALL)?)
-}
-
-/// The store of a disk.
-pub fn opened<D: Disk>(alloc: Global, disk: D) -> Result<Engine<D>, Fail>
-    ensures { IfOk result (λ engine. IsSound D.tells (view_of engine.core)) }
+/// What was made; the process ends where it wasn't.
+pub fn must<T>(rt: &impl Abort, made: Result<T, Fail>) -> T
+    ensures { made ≡ Ok result }
 {
-    match Engine::open(alloc, disk, &small()?) {
-        Ok(engine) => Ok(engine),
-        Err(_) => Err(Fail::new("not opened")),
+    match made {
+        Ok(value) => value,
+        Err(_) => panic!(rt; "it isn't made"),
     }
 }
 
-pub fn key_of(alloc: Global, text: &str) -> Result<Key, Fail> {
-    Ok(Key::new(text.as_bytes().to_vec(alloc)?)?)
+/// An empty disk, with room for many calls.
+pub fn empty_disk(alloc: Global, rt: &impl Abort) -> MemDisk {
+    must(rt, roomy_disk(alloc))
 }
 
-pub fn new_value(alloc: Global) -> Result<Value, Fail> {
-    Ok(Value::new(VALUE.to_vec(alloc)?)?)
+/// A store under test. That it is sound stands in its model, so its callers have nothing to prove. Each call has a port of its own.
+#[derive(Drop)]
+pub struct Store<D: Disk> {
+    engine: Engine<D>,
 }
 
-/// Whether that is a put's value.
-pub fn is_value(value: &Value) -> bool {
-    value.bytes() == VALUE
+impl<D: Disk> Model for Store<D> {
+    ghost use Rattle.lethe_core.specs.Running.{IsSound};
+    ghost use Rattle.lethe_core.specs.View.{view_of};
+
+    ghost Value = { Unit {0} };
+
+    ghost view = { λ _. tt };
+
+    ghost invariant = { λ s. IsSound D.tells (view_of s.engine.core) };
+}
+
+impl<D: Disk> Store<D> {
+    /// The store of a disk, or the disk where that fails.
+    pub fn opened_or_left(alloc: Global, rt: &impl Abort, disk: D) -> Result<Store<D>, D> {
+        let config = Config::new(SMALL).expect(rt, "a configuration");
+        match Engine::open(alloc, disk, &config) {
+            Ok(engine) => Ok(Store { engine }),
+            Err(OpenRefused { disk, .. }) => Err(disk),
+        }
+    }
+
+    pub fn opened(alloc: Global, rt: &impl Abort, disk: D) -> Store<D> {
+        match Store::opened_or_left(alloc, rt, disk) {
+            Ok(store) => store,
+            Err(_) => panic!(rt; "no store"),
+        }
+    }
+
+    pub fn port(&mut self, alloc: Global, rt: &impl Abort) -> D::Port {
+        self.engine.new_port(alloc).expect(rt, "a port")
+    }
+
+    /// Puts the value under the key, with the delete key 7.
+    pub fn put(&mut self, alloc: Global, rt: &impl Abort, key: &str) -> Result<u64, Refused> {
+        let key = key_of(alloc, key).expect(rt, "a key");
+        let value = value_of(alloc, VALUE).expect(rt, "a value");
+        let mut port = self.port(alloc, rt);
+        self.engine.put(alloc, &mut port, key, 7, value)
+    }
+
+    pub fn delete(&mut self, alloc: Global, rt: &impl Abort, key: &str) -> Result<u64, Refused> {
+        let key = key_of(alloc, key).expect(rt, "a key");
+        let mut port = self.port(alloc, rt);
+        self.engine.delete(alloc, &mut port, key)
+    }
+
+    pub fn freeze(&mut self, alloc: Global) -> Result<bool, Refused> {
+        self.engine.freeze(alloc)
+    }
+
+    pub fn flush(&mut self, alloc: Global) -> Result<bool, Refused> {
+        self.engine.flush(alloc)
+    }
+
+    /// What is answered to a run of events.
+    pub fn drive(&mut self, alloc: Global, rt: &impl Abort, events: Vec<Event>) -> Vec<Reply> {
+        let mut port = self.port(alloc, rt);
+        let replies = drive(&mut self.engine, alloc, &mut port, events);
+        replies.expect(rt, "replies")
+    }
+
+    pub fn tick(&mut self, alloc: Global, rt: &impl Abort, to: u64) -> Result<Ticked, Refused> {
+        assert!(rt; to <= MAX_TIME);
+        let mut port = self.port(alloc, rt);
+        self.engine.tick(alloc, &mut port, to)
+    }
+
+    pub fn pin(&mut self, alloc: Global) -> Result<Snapshot<D>, Refused> {
+        self.engine.pin(alloc)
+    }
+
+    pub fn release(&mut self, snapshot: Snapshot<D>) {
+        self.engine.release(snapshot);
+    }
+
+    /// How many changes there were.
+    pub fn count(&self) -> u64 {
+        self.engine.count()
+    }
+
+    pub fn clock(&self) -> u64 {
+        self.engine.stat().clock
+    }
+
+    pub fn into_disk(self) -> D {
+        self.engine.into_disk()
+    }
+}
+
+/// Whether these are a put's value.
+pub fn is_value(bytes: &[u8]) -> bool {
+    bytes == VALUE
+}
+
+fn has_value(bytes: &[u8]) -> bool {
+    bytes.windows(VALUE.len()).any(|window| is_value(window))
 }
 
 /// Whether an object has the value of a put.
-pub fn holds_value(alloc: Global, disk: &mut MemDisk) -> Result<bool, Fail> {
-    for (_, bytes) in &objects_of(alloc, disk)? {
-        if bytes.windows(VALUE.len()).any(|window| window == VALUE) {
-            return Ok(true);
-        }
-    }
-    Ok(false)
+pub fn holds_value(alloc: Global, rt: &impl Abort, disk: &mut MemDisk) -> bool {
+    let objects = must(rt, objects_of(alloc, disk));
+    objects.iter().any(|object| has_value(&object.1))
 }
 
 /// The names of the headers and the pages of a disk.
-pub fn parts_of<D: Disk>(alloc: Global, disk: &mut D) -> Result<Vec<Name>, Fail> {
-    let Ok(mut names) = disk.names(alloc) else {
-        return Err(Fail::new("names"));
-    };
+pub fn parts_of<D: Disk>(alloc: Global, rt: &impl Abort, disk: &mut D) -> Vec<Name> {
+    let mut names = disk.names(alloc).expect(rt, "names");
     names.retain(|name| matches!(name.kind, Kind::File | Kind::Page));
-    Ok(names)
+    names
 }

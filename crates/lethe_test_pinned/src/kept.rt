@@ -1,7 +1,7 @@
 //! Files that a job merges while a pin is held: which of their headers and pages stay, over a disk in memory, one whose fetches fail, and a folder.
 
 use crate::asks::{Ask, Told, Which, told_over};
-use crate::common::{empty_disk, parts_of};
+use crate::common::{empty_disk, must, parts_of};
 use lethe_base::{Kind, Name};
 use lethe_dirdisk::DirDisk;
 use lethe_disk::Disk;
@@ -9,7 +9,7 @@ use lethe_images::take_away;
 use lethe_memdisk::{FlakyDisk, MemDisk};
 use std::alloc::Global;
 use std::fs;
-use std::test::Fail;
+use std::process::Abort;
 
 /// What is asked, what is told, how many headers and pages of the first two files are there then, and how many headers and pages in all.
 type Row = (Ask, Told, [usize; 4]);
@@ -84,10 +84,10 @@ const DEEP: [Row; 10] = [
 ];
 
 /// The headers and the pages of the first two files.
-fn inputs_of(alloc: Global) -> Result<Vec<Name>, Fail> {
+fn inputs_of(alloc: Global, rt: &impl Abort) -> Vec<Name> {
     let asks = [Ask::File(FIRST), Ask::File(SECOND)];
-    let (_, mut disk) = told_over(alloc, empty_disk(alloc)?, &asks)?;
-    parts_of(alloc, &mut disk)
+    let (_, mut disk) = told_over(alloc, rt, empty_disk(alloc, rt), &asks);
+    parts_of(alloc, rt, &mut disk)
 }
 
 /// How many headers and how many pages are among these.
@@ -103,21 +103,25 @@ fn count(names: &[Name]) -> [usize; 2] {
     counts
 }
 
-/// How many of the inputs are there, and how many headers and pages in all.
-fn counts_of<D: Disk>(alloc: Global, disk: &mut D) -> Result<[usize; 4], Fail> {
-    let parts = parts_of(alloc, disk)?;
-    let mut left = inputs_of(alloc)?;
-    left.retain(|name| parts.contains(name));
-    let ([headers, pages], [all_headers, all_pages]) = (count(&left), count(&parts));
-    Ok([headers, pages, all_headers, all_pages])
+/// How many of the inputs are among the parts, and how many headers and pages in all.
+fn counts_among(mut inputs: Vec<Name>, parts: &[Name]) -> [usize; 4] {
+    inputs.retain(|name| parts.contains(name));
+    let ([headers, pages], [all_headers, all_pages]) = (count(&inputs), count(parts));
+    [headers, pages, all_headers, all_pages]
 }
 
-fn asks_of(alloc: Global, rows: &[Row], count: usize) -> Result<Vec<Ask>, Fail> {
+/// How many of the inputs are there, and how many headers and pages in all.
+fn counts_of<D: Disk>(alloc: Global, rt: &impl Abort, disk: &mut D) -> [usize; 4] {
+    let parts = parts_of(alloc, rt, disk);
+    counts_among(inputs_of(alloc, rt), &parts)
+}
+
+fn asks_of(alloc: Global, rt: &impl Abort, rows: &[Row], count: usize) -> Vec<Ask> {
     let mut asks = Vec::new(alloc);
     for (ask, _, _) in rows.iter().take(count) {
-        asks.push(*ask)?;
+        asks.push(*ask).expect(rt, "memory");
     }
-    Ok(asks)
+    asks
 }
 
 /// What is wanted, where a fetch fails among those of each reading.
@@ -128,113 +132,110 @@ fn wanted_of(told: Told, fails: bool) -> Told {
     }
 }
 
-/// How many headers and pages are wanted behind what was told. Fails where a row wants something else.
-fn counts_behind(told: &[Told], rows: &[Row], fails: bool) -> Result<[usize; 4], Fail> {
-    let mut last: [usize; 4] = [0, 0, 0, 0];
-    for (given, (_, wanted, counts)) in told.iter().zip(rows) {
-        let wanted = wanted_of(*wanted, fails);
-        if *given != wanted {
-            return Err(Fail::new(format_args!("{given:?} in place of {wanted:?}")));
-        }
-        last = *counts;
-    }
-    Ok(last)
+/// Whether that is told up to that row, where a fetch of each reading may fail.
+fn are_told(told: &[Told], rows: &[Row], count: usize, fails: bool) -> bool {
+    told.len() == count
+        && told
+            .iter()
+            .zip(rows)
+            .all(|(told, row)| *told == wanted_of(row.1, fails))
 }
 
-/// Fails where that many of the rows don't go so over an empty disk, on which a fetch of each reading may fail.
-fn must_go_so<D: Disk>(
+/// How many headers and pages are wanted behind so many rows.
+fn counts_behind(rows: &[Row], count: usize) -> [usize; 4] {
+    let mut last: [usize; 4] = [0, 0, 0, 0];
+    for (_, _, counts) in rows.iter().take(count) {
+        last = *counts;
+    }
+    last
+}
+
+/// That many of the rows have to go so over an empty disk, on which a fetch of each reading may fail.
+fn check_rows<D: Disk>(
     alloc: Global,
+    rt: &impl Abort,
     disk: D,
     rows: &[Row],
     count: usize,
     fails: bool,
-) -> Result<(), Fail> {
-    let asks = asks_of(alloc, rows, count)?;
-    let (told, mut disk) = told_over(alloc, disk, &asks)?;
-    let wanted = counts_behind(&told, rows, fails)?;
-    let counts = counts_of(alloc, &mut disk)?;
-    if told.len() != count || counts != wanted {
-        return Err(Fail::new(format_args!("behind {count}: {counts:?}")));
-    }
-    Ok(())
+) {
+    let asks = asks_of(alloc, rt, rows, count);
+    let (told, mut disk) = told_over(alloc, rt, disk, &asks);
+    assert!(rt; are_told(&told, rows, count, fails), "behind {count}");
+    let counts = counts_of(alloc, rt, &mut disk);
+    assert!(rt; counts == counts_behind(rows, count), "behind {count}");
 }
 
-fn go_so_in_memory(alloc: Global, rows: &[Row]) -> Result<(), Fail> {
+fn check_in_memory(alloc: Global, rt: &impl Abort, rows: &[Row]) {
     for count in 0..=rows.len() {
-        must_go_so(alloc, empty_disk(alloc)?, rows, count, false)?;
+        check_rows(alloc, rt, empty_disk(alloc, rt), rows, count, false);
     }
-    Ok(())
 }
 
 #[test]
-fn pages_that_a_pin_names_go_with_the_install_behind_its_release(
-    rt: HostRuntime,
-) -> Result<(), Fail> {
-    go_so_in_memory(rt.alloc(), &INSTALLED)
+fn pages_that_a_pin_names_go_with_the_install_behind_its_release(rt: HostRuntime) {
+    check_in_memory(rt.alloc(), &rt, &INSTALLED);
 }
 
 #[test]
-fn pages_that_a_pin_names_go_with_the_tick_behind_its_release(rt: HostRuntime) -> Result<(), Fail> {
-    go_so_in_memory(rt.alloc(), &TICKED)
+fn pages_that_a_pin_names_go_with_the_tick_behind_its_release(rt: HostRuntime) {
+    check_in_memory(rt.alloc(), &rt, &TICKED);
 }
 
 #[test]
-fn a_pin_names_pages_of_each_level(rt: HostRuntime) -> Result<(), Fail> {
-    go_so_in_memory(rt.alloc(), &DEEP)
+fn a_pin_names_pages_of_each_level(rt: HostRuntime) {
+    check_in_memory(rt.alloc(), &rt, &DEEP);
 }
 
 /// The rows over a disk each of whose ports fails in the fetch of that number. A job has four.
-fn must_go_so_failing(alloc: Global, failing: u64, rows: &[Row]) -> Result<(), Fail> {
-    let disk = FlakyDisk::new(empty_disk(alloc)?, vec![in alloc; failing]?);
-    must_go_so(alloc, disk, rows, rows.len(), true)
+fn check_failing(alloc: Global, rt: &impl Abort, failing: u64, rows: &[Row]) {
+    let failing = vec![in alloc; failing].expect(rt, "memory");
+    let disk = FlakyDisk::new(empty_disk(alloc, rt), failing);
+    check_rows(alloc, rt, disk, rows, rows.len(), true);
 }
 
 #[test]
-fn each_key_is_read_by_a_fetch(rt: HostRuntime) -> Result<(), Fail> {
-    let alloc = rt.alloc();
+fn each_key_is_read_by_a_fetch(rt: HostRuntime) {
     // Eight keys, one fetch each at least.
     for failing in 5..=8 {
-        must_go_so_failing(alloc, failing, &INSTALLED)?;
-        must_go_so_failing(alloc, failing, &TICKED)?;
+        check_failing(rt.alloc(), &rt, failing, &INSTALLED);
+        check_failing(rt.alloc(), &rt, failing, &TICKED);
     }
-    Ok(())
 }
 
 const FOLDER: &str = "lethe_pinned_folder";
 
 /// The rows over a folder of its own.
-fn must_go_so_in_folder(rt: &HostRuntime, rows: &[Row], count: usize) -> Result<(), Fail> {
-    let alloc = rt.alloc();
-    let _ = fs::remove_dir_all(rt, FOLDER);
-    must_go_so(alloc, DirDisk::open(rt, alloc, FOLDER)?, rows, count, false)?;
-    let _ = fs::remove_dir_all(rt, FOLDER);
-    Ok(())
+fn check_in_folder(host: &HostRuntime, rt: &impl Abort, rows: &[Row], count: usize) {
+    let _ = fs::remove_dir_all(host, FOLDER);
+    let disk = DirDisk::open(host, host.alloc(), FOLDER).expect(rt, "a folder");
+    check_rows(host.alloc(), rt, disk, rows, count, false);
+    let _ = fs::remove_dir_all(host, FOLDER);
 }
 
 /// A fetch reads a file there.
 #[test]
-fn files_of_a_folder_stay_while_a_pin_names_them(rt: HostRuntime) -> Result<(), Fail> {
+fn files_of_a_folder_stay_while_a_pin_names_them(rt: HostRuntime) {
     for count in [4, 9, 12, 13] {
-        must_go_so_in_folder(&rt, &INSTALLED, count)?;
+        check_in_folder(&rt, &rt, &INSTALLED, count);
     }
     for count in 7..=TICKED.len() {
-        must_go_so_in_folder(&rt, &TICKED, count)?;
+        check_in_folder(&rt, &rt, &TICKED, count);
     }
-    Ok(())
 }
 
 /// The disk of a store that ended while the pin was held.
-fn killed(alloc: Global) -> Result<MemDisk, Fail> {
-    let asks = asks_of(alloc, &TICKED, 4)?;
-    let (_, disk) = told_over(alloc, empty_disk(alloc)?, &asks)?;
-    Ok(disk)
+fn killed(alloc: Global, rt: &impl Abort) -> MemDisk {
+    let asks = asks_of(alloc, rt, &TICKED, 4);
+    let (_, disk) = told_over(alloc, rt, empty_disk(alloc, rt), &asks);
+    disk
 }
 
 /// One of the pages that the pin named.
-fn named_page(alloc: Global) -> Result<Name, Fail> {
-    let inputs = inputs_of(alloc)?;
+fn named_page(alloc: Global, rt: &impl Abort) -> Name {
+    let inputs = inputs_of(alloc, rt);
     let page = inputs.iter().find(|name| name.kind == Kind::Page);
-    Ok(*page.ok_or("no page")?)
+    *page.expect(rt, "a page")
 }
 
 /// What was done to a page by hand.
@@ -245,42 +246,34 @@ enum ByHand {
     Removed,
 }
 
-/// The disk where that was done to a page that the pin named.
-fn changed(alloc: Global, done: ByHand) -> Result<MemDisk, Fail> {
-    let page = named_page(alloc)?;
-    let mut disk = killed(alloc)?;
-    match done {
-        ByHand::Nothing => Ok(disk),
-        ByHand::Changed => {
-            if disk.swap(page, b"no page".as_slice().to_vec(alloc)?) {
-                Ok(disk)
-            } else {
-                Err(Fail::new("no page"))
-            }
-        }
-        ByHand::Removed => {
-            take_away(alloc, &mut disk, page.kind, page.no)?;
-            Ok(disk)
-        }
-    }
+fn change(alloc: Global, rt: &impl Abort, disk: &mut MemDisk, page: Name) {
+    let bytes = b"no page".to_vec(alloc).expect(rt, "memory");
+    assert!(rt; disk.swap(page, bytes));
 }
 
-/// Whether a store is opened of the disk, which has what was put, and no other page than those of its file.
-fn is_opened(alloc: Global, disk: MemDisk) -> Result<bool, Fail> {
-    let (told, mut disk) = told_over(alloc, disk, &[Ask::Pin(Which::One), READ])?;
-    let read = told.last() == Some(&Told::Read(8, 0));
-    Ok(read && counts_of(alloc, &mut disk)? == [0, 0, 1, 4])
+/// The disk where that was done to a page that the pin named.
+fn changed(alloc: Global, rt: &impl Abort, done: ByHand) -> MemDisk {
+    let page = named_page(alloc, rt);
+    let mut disk = killed(alloc, rt);
+    match done {
+        ByHand::Nothing => {}
+        ByHand::Changed => change(alloc, rt, &mut disk, page),
+        ByHand::Removed => must(rt, take_away(alloc, &mut disk, page.kind, page.no)),
+    }
+    disk
+}
+
+/// A store has to be opened of the disk, which has what was put, and no other page than those of its file.
+fn check_opened(alloc: Global, rt: &impl Abort, disk: MemDisk) {
+    let (told, mut disk) = told_over(alloc, rt, disk, &[Ask::Pin(Which::One), READ]);
+    assert!(rt; told.last() == Some(&Told::Read(8, 0)));
+    assert!(rt; counts_of(alloc, rt, &mut disk) == [0, 0, 1, 4]);
 }
 
 #[test]
-fn an_opening_removes_what_a_pin_of_an_earlier_run_named(rt: HostRuntime) -> Result<(), Fail> {
-    let alloc = rt.alloc();
+fn an_opening_removes_what_a_pin_of_an_earlier_run_named(rt: HostRuntime) {
     // Also where a page that it named was changed by hand, or removed.
-    for (row, done) in [ByHand::Nothing, ByHand::Changed, ByHand::Removed]
-        .into_iter()
-        .enumerate()
-    {
-        assert!(rt; is_opened(alloc, changed(alloc, done)?)?, "row {row}");
+    for done in [ByHand::Nothing, ByHand::Changed, ByHand::Removed] {
+        check_opened(rt.alloc(), &rt, changed(rt.alloc(), &rt, done));
     }
-    Ok(())
 }

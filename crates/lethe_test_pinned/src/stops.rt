@@ -2,15 +2,14 @@
 
 use crate::asks::{Ask, Told, Which, told_by};
 use crate::barred::{DELETED, asks_of};
-use crate::common::{empty_disk, holds_value, opened, small};
+use crate::common::{Store, empty_disk, holds_value, must};
 use lethe_base::{Kind, Name, Refused};
-use lethe_engine::{Engine, OpenRefused};
 use lethe_header::{Header, read_header};
 use lethe_images::{IMAGES, image_of, objects_of, take_calls};
 use lethe_manifest::read_manifest;
 use lethe_memdisk::MemDisk;
 use std::alloc::Global;
-use std::test::Fail;
+use std::process::Abort;
 
 /// Behind each number of changes how many values there are, and the clock.
 const BEHIND: [(usize, u64); 5] = [(0, 0), (1, 0), (0, 0), (0, 99), (0, 100)];
@@ -25,21 +24,19 @@ const HELD: (usize, usize) = (3, 5);
 const NOW: [Ask; 2] = [Ask::Pin(Which::One), Ask::Read(Which::One, &["a"])];
 
 /// What is asked of the rows, and then a pin.
-fn asks_and_now(alloc: Global) -> Result<Vec<Ask>, Fail> {
-    let mut asks = asks_of(alloc, &DELETED, DELETED.len())?;
-    asks.extend_from_slice(&NOW)?;
-    Ok(asks)
+fn asks_and_now(alloc: Global, rt: &impl Abort) -> Vec<Ask> {
+    let mut asks = asks_of(alloc, rt, &DELETED, DELETED.len());
+    asks.extend_from_slice(&NOW).expect(rt, "memory");
+    asks
 }
 
 /// What is told over a disk that stops behind so many calls. Nothing is told where the store isn't opened.
-fn told_until(alloc: Global, calls: u64) -> Result<(Vec<Told>, MemDisk), Fail> {
-    let config = small()?;
-    let asks = asks_and_now(alloc)?;
-    let mut disk = empty_disk(alloc)?;
+fn told_until(alloc: Global, rt: &impl Abort, calls: u64) -> (Vec<Told>, MemDisk) {
+    let mut disk = empty_disk(alloc, rt);
     disk.fuse(calls);
-    match Engine::open(alloc, disk, &config) {
-        Ok(engine) => told_by(alloc, engine, &asks),
-        Err(OpenRefused { disk, .. }) => Ok((Vec::new(alloc), disk)),
+    match Store::opened_or_left(alloc, rt, disk) {
+        Ok(store) => told_by(alloc, rt, store, &asks_and_now(alloc, rt)),
+        Err(disk) => (Vec::new(alloc), disk),
     }
 }
 
@@ -87,40 +84,36 @@ fn count_pages(header: &Header) -> usize {
     count
 }
 
+/// How many objects a manifest cites.
+fn count_cited_by_manifest(alloc: Global, rt: &impl Abort, bytes: &[u8]) -> usize {
+    let manifest = read_manifest(alloc, bytes).expect(rt, "a manifest");
+    let segments = manifest.segments.items().len();
+    segments.saturating_add(manifest.files.items().len())
+}
+
 /// How many objects an object cites.
-fn count_cited(alloc: Global, name: Name, bytes: &[u8]) -> Result<usize, Fail> {
+fn count_cited(alloc: Global, rt: &impl Abort, name: Name, bytes: &[u8]) -> usize {
     match name.kind {
-        Kind::Manifest => match read_manifest(alloc, bytes) {
-            Ok(manifest) => {
-                let segments = manifest.segments.items().len();
-                Ok(segments.saturating_add(manifest.files.items().len()))
-            }
-            Err(_) => Err(Fail::new("a manifest")),
-        },
-        Kind::File => match read_header(alloc, bytes) {
-            Ok(header) => Ok(count_pages(&header)),
-            Err(_) => Err(Fail::new("a header")),
-        },
-        _ => Ok(0),
+        Kind::Manifest => count_cited_by_manifest(alloc, rt, bytes),
+        Kind::File => count_pages(&read_header(alloc, bytes).expect(rt, "a header")),
+        _ => 0,
     }
 }
 
 /// Whether there is a gate, a manifest, and what that cites, and nothing else.
-fn has_no_more(alloc: Global, disk: &mut MemDisk) -> Result<bool, Fail> {
-    let objects = objects_of(alloc, disk)?;
+fn has_no_more(alloc: Global, rt: &impl Abort, disk: &mut MemDisk) -> bool {
+    let objects = must(rt, objects_of(alloc, disk));
     let mut cited: usize = 2;
     for (name, bytes) in &objects {
-        cited = cited.saturating_add(count_cited(alloc, *name, bytes)?);
+        cited = cited.saturating_add(count_cited(alloc, rt, *name, bytes));
     }
-    Ok(objects.len() == cited)
+    objects.len() == cited
 }
 
-/// Whether a disk has no more than it cites, and the value only where fewer changes were made than let it go.
-fn is_clean(alloc: Global, disk: &mut MemDisk, changes: u64) -> Result<bool, Fail> {
-    if changes >= CLEAN && holds_value(alloc, disk)? {
-        return Ok(false);
-    }
-    has_no_more(alloc, disk)
+/// A disk has to have no more than it cites, and the value only where fewer changes were made than let it go.
+fn check_clean(alloc: Global, rt: &impl Abort, disk: &mut MemDisk, changes: u64) {
+    assert!(rt; changes < CLEAN || !holds_value(alloc, rt, disk));
+    assert!(rt; has_no_more(alloc, rt, disk));
 }
 
 /// Whether the values and the clock are those behind so many changes, as the pin that is made at last reads them.
@@ -130,65 +123,72 @@ fn are_behind(told: &[Told], changes: u64, clock: u64) -> bool {
         && told.last() == Some(&Told::Read(values, 0))
 }
 
-/// Fails where the store that is opened of a disk has lost something of that many changes, has something that wasn't asked, or has more on its disk than it cites.
-fn must_keep(alloc: Global, disk: MemDisk, done: u64) -> Result<(), Fail> {
-    let engine = opened(alloc, disk)?;
-    let (kept, clock) = (engine.count(), engine.stat().clock);
-    let (told, mut disk) = told_by(alloc, engine, &NOW)?;
-    let front = done <= kept && kept <= done.saturating_add(1);
-    let whole = front && are_behind(&told, kept, clock);
-    if !whole || !is_clean(alloc, &mut disk, kept)? {
-        return Err(Fail::new(format_args!("{kept} changes in place of {done}")));
-    }
-    Ok(())
+/// The store that is opened of a disk may have lost nothing of that many changes, and has nothing that wasn't asked, nor more on its disk than it cites.
+fn check_kept(alloc: Global, rt: &impl Abort, disk: MemDisk, done: u64) {
+    let store = Store::opened(alloc, rt, disk);
+    let (kept, clock) = (store.count(), store.clock());
+    let (told, mut disk) = told_by(alloc, rt, store, &NOW);
+    assert!(rt;
+        done <= kept && kept <= done.saturating_add(1),
+        "{kept} changes in place of {done}"
+    );
+    assert!(rt; are_behind(&told, kept, clock), "behind {kept} changes");
+    check_clean(alloc, rt, &mut disk, kept);
 }
 
-/// Fails where the disk failed while the pin was held, and no object has the value that the pin reads any more.
-fn must_hold(alloc: Global, disk: &mut MemDisk, told: &[Told]) -> Result<(), Fail> {
+/// Whether the disk failed while the pin was held.
+fn failed_held(told: &[Told]) -> bool {
     let (first, count) = HELD;
-    let held = told
-        .iter()
-        .skip(first)
-        .take(count)
-        .any(|told| is_fault(told));
-    if held && !holds_value(alloc, disk)? {
-        return Err(Fail::new("a page that a pin names"));
-    }
-    Ok(())
+    let mut held = told.iter().skip(first).take(count);
+    held.any(|told| is_fault(told))
 }
 
-/// Fails where a disk that a crash may leave of this, behind so many of its calls, or the disk itself keeps less than was told.
-fn must_keep_crashed(alloc: Global, disk: MemDisk, calls: u64, told: &[Told]) -> Result<(), Fail> {
-    let mut disk = disk;
+/// Where the disk failed while the pin was held, an object has to have the value that the pin reads.
+fn check_held(alloc: Global, rt: &impl Abort, disk: &mut MemDisk, told: &[Told]) {
+    assert!(rt; !failed_held(told) || holds_value(alloc, rt, disk));
+}
+
+/// The disks that a crash may leave of this, behind so many of its calls, and the disk itself have to keep what was told.
+fn check_kept_crashed(
+    alloc: Global,
+    rt: &impl Abort,
+    mut disk: MemDisk,
+    calls: u64,
+    told: &[Told],
+) {
     let done = count_done(told);
     disk.fuse(20_000);
-    take_calls(alloc, &mut disk, calls)?;
+    must(rt, take_calls(alloc, &mut disk, calls));
     for image in IMAGES {
-        must_keep(alloc, image_of(&disk, calls, image)?, done)?;
+        check_kept(alloc, rt, must(rt, image_of(&disk, calls, image)), done);
     }
-    must_hold(alloc, &mut disk, told)?;
-    must_keep(alloc, disk, done)
+    check_held(alloc, rt, &mut disk, told);
+    check_kept(alloc, rt, disk, done);
 }
 
-/// Whether the rows are stopped behind so many calls. Fails where what is left of them isn't what it should be.
-fn is_stopped(alloc: Global, calls: u64) -> Result<bool, Fail> {
-    let (told, disk) = told_until(alloc, calls)?;
+/// Whether the rows are stopped behind so many calls. What is left of them has to be what it should be.
+fn is_stopped(alloc: Global, rt: &impl Abort, calls: u64) -> bool {
+    let (told, disk) = told_until(alloc, rt, calls);
     let failed = told.iter().any(|told| is_fault(told));
-    if !told.is_empty() && !read_their_points(&told, failed) {
-        return Err(Fail::new(format_args!("behind {calls}: {told:?}")));
+    assert!(rt;
+        told.is_empty() || read_their_points(&told, failed),
+        "behind {calls}"
+    );
+    check_kept_crashed(alloc, rt, disk, calls, &told);
+    failed || told.is_empty()
+}
+
+/// Stops the rows behind each number of calls that they take, and counts these.
+fn stop_at_each(alloc: Global, rt: &impl Abort) -> u64 {
+    for calls in 0..600 {
+        if !is_stopped(alloc, rt, calls) {
+            return calls;
+        }
     }
-    must_keep_crashed(alloc, disk, calls, &told)?;
-    Ok(failed || told.is_empty())
+    panic!(rt; "too many calls")
 }
 
 #[test]
-fn a_store_with_a_pin_is_stopped_at_each_call(rt: HostRuntime) -> Result<(), Fail> {
-    let alloc = rt.alloc();
-    for calls in 0..600 {
-        if !is_stopped(alloc, calls)? {
-            assert!(rt; calls > 60);
-            return Ok(());
-        }
-    }
-    Err(Fail::new("too many calls"))
+fn a_store_with_a_pin_is_stopped_at_each_call(rt: HostRuntime) {
+    assert!(rt; stop_at_each(rt.alloc(), &rt) > 60);
 }

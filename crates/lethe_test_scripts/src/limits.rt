@@ -1,10 +1,10 @@
 //! Limits of pins in generated scripts.
 
-use lethe_images::disk_of;
-use lethe_rows::{SMALL, run_over};
+use crate::common::{empty_disk, run};
+use lethe_rows::SMALL_WORDS;
 use std::alloc::Global;
+use std::process::Abort;
 use std::str;
-use std::test::Fail;
 
 /// Scripts that `bench/limits_run` made, and what is printed of each without the digests: each limit is the one that its plain model knows, which keeps the history and no files.
 const GENERATED: [(&str, &str); 3] = [
@@ -22,24 +22,33 @@ const GENERATED: [(&str, &str); 3] = [
     ),
 ];
 
+fn without_digest(line: &str) -> &str {
+    match line.split_once(" sha256 ") {
+        Some((front, _)) => front,
+        None => line,
+    }
+}
+
 /// The lines, each up to the digest that it may have.
-fn without_digests(alloc: Global, text: &str) -> Result<String, Fail> {
+fn without_digests(alloc: Global, rt: &impl Abort, text: &str) -> String {
     let mut lines = String::new(alloc);
     for line in text.lines() {
-        lines.push_str(line.split_once(" sha256 ").map_or(line, |parts| parts.0))?;
-        lines.push_str("\n")?;
+        lines.push_str(without_digest(line)).expect(rt, "memory");
+        lines.push_str("\n").expect(rt, "memory");
     }
-    Ok(lines)
+    lines
+}
+
+fn check_limits(alloc: Global, rt: &impl Abort, script: &str, told: &str) {
+    let left = run(alloc, rt, &SMALL_WORDS, script, empty_disk(alloc, rt));
+    let text = str::from_utf8(&left.printed.text).expect(rt, "a text");
+    let text = without_digests(alloc, rt, text);
+    assert!(rt; text.as_str() == told, "{text}");
 }
 
 #[test]
-fn limits_of_generated_scripts_are_those_of_a_plain_model(rt: HostRuntime) -> Result<(), Fail> {
-    let alloc = rt.alloc();
+fn limits_of_generated_scripts_are_those_of_a_plain_model(rt: HostRuntime) {
     for (script, told) in GENERATED {
-        let disk = disk_of(alloc, &[])?;
-        let left = run_over(alloc, &SMALL, script.as_bytes(), &[], &[], disk)?;
-        let text = str::from_utf8(&left.printed.text)?;
-        assert_eq!(rt; without_digests(alloc, text)?.as_str(), told);
+        check_limits(rt.alloc(), &rt, script, told);
     }
-    Ok(())
 }

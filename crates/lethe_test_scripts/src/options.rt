@@ -1,8 +1,9 @@
 //! The words of a run: which configuration they ask for.
 
-use lethe_images::disk_of;
-use lethe_rows::{SMALL, answered, answered_for, answered_small, text_of};
-use std::test::Fail;
+use crate::common::{answered, answered_for, answered_small, empty_disk, must};
+use lethe_rows::{SMALL_WORDS, text_of};
+use std::alloc::Global;
+use std::process::Abort;
 
 /// Words, and the configuration of a store that they make.
 const ROWS: [(&[&str], &str); 5] = [
@@ -55,30 +56,31 @@ const GET: &str = "1 get a\n";
 
 const HELD: &str = "1 at 1 val 5 x\n";
 
-#[test]
-fn a_store_has_the_configuration_that_was_asked_for(rt: HostRuntime) -> Result<(), Fail> {
-    let alloc = rt.alloc();
-    for (words, config) in ROWS {
-        let other = text_of(
-            alloc,
-            &["other config kept ", config, " asked ", DEFAULT, "\n"],
-        )?;
-        let disk = answered_for(alloc, words, PUT, disk_of(alloc, &[])?, 0, "1 ok 1\n")?;
-        let disk = answered(alloc, GET, disk, 9, &other)?;
-        answered_for(alloc, words, GET, disk, 0, HELD)?;
-    }
-    Ok(())
+// A store that is made with these words has to have this configuration.
+fn check_config(alloc: Global, rt: &impl Abort, words: &[&str], config: &str) {
+    let parts = ["other config kept ", config, " asked ", DEFAULT, "\n"];
+    let other = must(rt, text_of(alloc, &parts));
+    let disk = empty_disk(alloc, rt);
+    let disk = answered_for(alloc, rt, words, PUT, disk, 0, "1 ok 1\n");
+    let disk = answered(alloc, rt, GET, disk, 9, &other);
+    answered_for(alloc, rt, words, GET, disk, 0, HELD);
 }
 
 #[test]
-fn a_store_of_another_ratio_is_told(rt: HostRuntime) -> Result<(), Fail> {
+fn a_store_has_the_configuration_that_was_asked_for(rt: HostRuntime) {
+    for (words, config) in ROWS {
+        check_config(rt.alloc(), &rt, words, config);
+    }
+}
+
+#[test]
+fn a_store_of_another_ratio_is_told(rt: HostRuntime) {
     let alloc = rt.alloc();
-    let mut other = SMALL;
+    let mut other = SMALL_WORDS;
     other[14] = "3";
     let text =
         "other config kept threshold=100 ratio=2 levels=2 page=2 tile=2 file=2 buffer=4 pick=so asked threshold=100 ratio=3 levels=2 page=2 tile=2 file=2 buffer=4 pick=so\n";
-    let disk = answered_small(alloc, PUT, disk_of(alloc, &[])?, 0, "1 ok 1\n")?;
-    let disk = answered_for(alloc, &other, "1 del a\n", disk, 9, text)?;
-    answered_small(alloc, GET, disk, 0, HELD)?;
-    Ok(())
+    let disk = answered_small(alloc, &rt, PUT, empty_disk(alloc, &rt), 0, "1 ok 1\n");
+    let disk = answered_for(alloc, &rt, &other, "1 del a\n", disk, 9, text);
+    answered_small(alloc, &rt, GET, disk, 0, HELD);
 }

@@ -1,12 +1,13 @@
 //! When the text of a phase is printed.
 
+use crate::common::{check_printed, empty_disk};
 use crate::counting::{Calls, CountingDisk, NotingSink};
-use lethe_images::disk_of;
-use lethe_rows::{Printed, SMALL};
+use lethe_memdisk::MemDisk;
+use lethe_rows::{Printed, SMALL_WORDS};
 use lethe_run::run;
 use lethe_wire::{MemSink, MemSource};
 use std::alloc::Global;
-use std::test::Fail;
+use std::process::Abort;
 
 /// The first put of the script.
 const FIRST: &str = "1 put a 1 v\n";
@@ -26,36 +27,64 @@ struct Counts {
     end: u64,
 }
 
-// Runs a script with the small configuration over an empty disk. It is answered, and prints this.
-fn counts_of(alloc: Global, script: &str, text: &str) -> Result<Counts, Fail> {
+fn words_of(alloc: Global, rt: &impl Abort) -> Vec<String> {
     let mut words = Vec::new(alloc);
-    for word in SMALL {
-        words.push(String::from_str(alloc, word)?)?;
+    for word in SMALL_WORDS {
+        let word = String::from_str(alloc, word).expect(rt, "memory");
+        words.push(word).expect(rt, "memory");
     }
-    let calls = Calls::none(alloc)?;
-    let disk = CountingDisk::new(disk_of(alloc, &[])?, calls.share()?);
-    let mut source = MemSource::new(script.as_bytes().to_vec(alloc)?, Vec::new(alloc));
-    let mut sink = NotingSink::new(MemSink::new(alloc, Vec::new(alloc))?, calls.share()?);
-    let ended = run(alloc, &words, &mut source, &mut sink, disk);
-    let printed = Printed {
-        status: ended.status,
-        text: sink.bytes().to_vec(alloc)?,
-    };
-    printed.must_be(0, text)?;
-    Ok(Counts {
-        first_write: sink.first(),
+    words
+}
+
+// An empty disk, which raises the count.
+fn counting_disk(alloc: Global, rt: &impl Abort, calls: &Calls) -> CountingDisk<MemDisk> {
+    CountingDisk::new(empty_disk(alloc, rt), calls.share().expect(rt, "memory"))
+}
+
+// A sink that notes the count.
+fn noting_sink(alloc: Global, rt: &impl Abort, calls: &Calls) -> NotingSink {
+    let sink = MemSink::new(alloc, Vec::new(alloc)).expect(rt, "memory");
+    NotingSink::new(sink, calls.share().expect(rt, "memory"))
+}
+
+fn source_of(alloc: Global, rt: &impl Abort, script: &str) -> MemSource {
+    let bytes = script.as_bytes().to_vec(alloc).expect(rt, "memory");
+    MemSource::new(bytes, Vec::new(alloc))
+}
+
+// Runs a script with the small configuration over an empty disk, and tells what was printed, and how many calls there were at the first write.
+fn run_counted(
+    alloc: Global,
+    rt: &impl Abort,
+    script: &str,
+    calls: &Calls,
+) -> (Printed, Option<u64>) {
+    let mut source = source_of(alloc, rt, script);
+    let mut sink = noting_sink(alloc, rt, calls);
+    let disk = counting_disk(alloc, rt, calls);
+    let ended = run(alloc, &words_of(alloc, rt), &mut source, &mut sink, disk);
+    let text = sink.bytes().to_vec(alloc).expect(rt, "memory");
+    let status = ended.status;
+    (Printed { status, text }, sink.first())
+}
+
+// The same, where it is answered, and prints this.
+fn counts_of(alloc: Global, rt: &impl Abort, script: &str, text: &str) -> Counts {
+    let calls = Calls::none(alloc).expect(rt, "memory");
+    let (printed, first_write) = run_counted(alloc, rt, script, &calls);
+    check_printed(rt, &printed, 0, text);
+    Counts {
+        first_write,
         end: calls.count(),
-    })
+    }
 }
 
 #[test]
-fn a_phase_is_printed_behind_its_last_device_call(rt: HostRuntime) -> Result<(), Fail> {
-    let alloc = rt.alloc();
-    let first = counts_of(alloc, FIRST, "1 ok 1\n")?;
-    let all = counts_of(alloc, SCRIPT, TEXT)?;
-    assert_eq!(rt; first.first_write, Some(first.end));
-    assert_eq!(rt; all.first_write, Some(all.end));
+fn a_phase_is_printed_behind_its_last_device_call(rt: HostRuntime) {
+    let first = counts_of(rt.alloc(), &rt, FIRST, "1 ok 1\n");
+    let all = counts_of(rt.alloc(), &rt, SCRIPT, TEXT);
+    assert!(rt; first.first_write == Some(first.end));
+    assert!(rt; all.first_write == Some(all.end));
     // What follows the first put takes calls, so a line written before that would have found fewer.
     assert!(rt; first.end < all.end);
-    Ok(())
 }

@@ -1,8 +1,8 @@
 //! Pins in slots, and what they show.
 
-use lethe_images::disk_of;
-use lethe_rows::answered_small;
-use std::test::Fail;
+use crate::common::{answered_small, empty_disk};
+use std::alloc::Global;
+use std::process::Abort;
 
 /// Scripts, and what is printed of them over an empty disk.
 const ROWS: [(&str, &str); 8] = [
@@ -47,15 +47,17 @@ const ROWS: [(&str, &str); 8] = [
     ),
 ];
 
+// However the run ends, the disk is handed back as one that nothing was pinned on.
+fn check_shown(alloc: Global, rt: &impl Abort, script: &str, text: &str) {
+    let disk = answered_small(alloc, rt, script, empty_disk(alloc, rt), 0, text);
+    answered_small(alloc, rt, "1 pget 0 a\n", disk, 3, "line 1 bad slot\n");
+}
+
 #[test]
-fn slots_show_the_store_at_their_points(rt: HostRuntime) -> Result<(), Fail> {
-    let alloc = rt.alloc();
+fn slots_show_the_store_at_their_points(rt: HostRuntime) {
     for (script, text) in ROWS {
-        // However the run ends, the disk is handed back as one that nothing was pinned on.
-        let disk = answered_small(alloc, script, disk_of(alloc, &[])?, 0, text)?;
-        answered_small(alloc, "1 pget 0 a\n", disk, 3, "line 1 bad slot\n")?;
+        check_shown(rt.alloc(), &rt, script, text);
     }
-    Ok(())
 }
 
 /// Scripts of which nothing is run, and what is said of them.
@@ -68,12 +70,14 @@ const BAD: [(&str, &str); 6] = [
     ("1 pget x =\n", "line 1 bad slot\n"),
 ];
 
+fn check_bad(alloc: Global, rt: &impl Abort, script: &str, text: &str) {
+    let disk = answered_small(alloc, rt, script, empty_disk(alloc, rt), 3, text);
+    answered_small(alloc, rt, "1 get a\n", disk, 0, "1 at 0 none\n");
+}
+
 #[test]
-fn slots_that_are_not_as_needed_are_refused(rt: HostRuntime) -> Result<(), Fail> {
-    let alloc = rt.alloc();
+fn slots_that_are_not_as_needed_are_refused(rt: HostRuntime) {
     for (script, text) in BAD {
-        let disk = answered_small(alloc, script, disk_of(alloc, &[])?, 3, text)?;
-        answered_small(alloc, "1 get a\n", disk, 0, "1 at 0 none\n")?;
+        check_bad(rt.alloc(), &rt, script, text);
     }
-    Ok(())
 }

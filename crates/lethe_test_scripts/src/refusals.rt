@@ -1,8 +1,9 @@
 //! Words and scripts that are refused.
 
-use lethe_rows::{bytes_of, filled, must_print, run_of};
+use crate::common::{check_printed, check_prints, many, must, printed_of};
+use lethe_rows::bytes_of;
 use std::alloc::Global;
-use std::test::Fail;
+use std::process::Abort;
 
 /// Bytes that are no script, and what is said of them.
 const BAD_SCRIPTS: [(&[u8], &str); 29] = [
@@ -41,11 +42,10 @@ const BAD_SCRIPTS: [(&[u8], &str); 29] = [
 ];
 
 #[test]
-fn bytes_that_are_no_script_are_refused_at_the_first_bad_line(rt: HostRuntime) -> Result<(), Fail> {
+fn bytes_that_are_no_script_are_refused_at_the_first_bad_line(rt: HostRuntime) {
     for (script, text) in BAD_SCRIPTS {
-        must_print(rt.alloc(), script, 3, text)?;
+        check_prints(rt.alloc(), &rt, script, 3, text);
     }
-    Ok(())
 }
 
 /// How long the key and the value of a put are, the status, and what is printed.
@@ -55,16 +55,20 @@ const LENGTHS: [(usize, usize, u8, &str); 3] = [
     (255, 4097, 3, "line 2 bad value\n"),
 ];
 
+// A get, and a put of a key and a value that are so long.
+fn put_of(alloc: Global, rt: &impl Abort, key: usize, value: usize) -> Vec<u8> {
+    let key = many(alloc, rt, b'k', key);
+    let value = many(alloc, rt, b'v', value);
+    let parts = [b"1 get a\n1 put ".as_slice(), &key, b" 7 ", &value];
+    must(rt, bytes_of(alloc, &parts))
+}
+
 #[test]
-fn keys_and_values_have_limits(rt: HostRuntime) -> Result<(), Fail> {
-    let alloc = rt.alloc();
+fn keys_and_values_have_limits(rt: HostRuntime) {
     for (key, value, status, text) in LENGTHS {
-        let key = filled(alloc, b'k', key)?;
-        let value = filled(alloc, b'v', value)?;
-        let script = bytes_of(alloc, &[b"1 get a\n1 put ", &key, b" 7 ", &value])?;
-        must_print(alloc, &script, status, text)?;
+        let script = put_of(rt.alloc(), &rt, key, value);
+        check_prints(rt.alloc(), &rt, &script, status, text);
     }
-    Ok(())
 }
 
 /// What stands in front of so many spaces, the status, and what is printed.
@@ -77,18 +81,17 @@ const SIZES: [(&[u8], usize, u8, &str); 5] = [
 ];
 
 // So many spaces behind a front.
-fn spaced(alloc: Global, front: &[u8], spaces: usize) -> Result<Vec<u8>, Fail> {
-    let spaces = filled(alloc, b' ', spaces)?;
-    bytes_of(alloc, &[front, &spaces])
+fn spaced(alloc: Global, rt: &impl Abort, front: &[u8], spaces: usize) -> Vec<u8> {
+    let spaces = many(alloc, rt, b' ', spaces);
+    must(rt, bytes_of(alloc, &[front, &spaces]))
 }
 
 #[test]
-fn a_script_has_a_greatest_size(rt: HostRuntime) -> Result<(), Fail> {
-    let alloc = rt.alloc();
+fn a_script_has_a_greatest_size(rt: HostRuntime) {
     for (front, spaces, status, text) in SIZES {
-        must_print(alloc, &spaced(alloc, front, spaces)?, status, text)?;
+        let script = spaced(rt.alloc(), &rt, front, spaces);
+        check_prints(rt.alloc(), &rt, &script, status, text);
     }
-    Ok(())
 }
 
 /// Words that are no command.
@@ -118,10 +121,9 @@ const BAD_WORDS: [&[&str]; 22] = [
 ];
 
 #[test]
-fn other_words_are_refused(rt: HostRuntime) -> Result<(), Fail> {
+fn other_words_are_refused(rt: HostRuntime) {
     for words in BAD_WORDS {
-        let printed = run_of(rt.alloc(), words, b"1 get a\n", &[1], &[])?;
-        printed.must_be(2, "bad words\n")?;
+        let printed = printed_of(rt.alloc(), &rt, words, b"1 get a\n", &[1], &[]);
+        check_printed(&rt, &printed, 2, "bad words\n");
     }
-    Ok(())
 }

@@ -1,7 +1,6 @@
 //! Scripts that are answered.
 
-use lethe_rows::must_print;
-use std::test::Fail;
+use crate::common::check_prints;
 
 /// Scripts, and what is printed of them.
 const ROWS: [(&str, &str); 20] = [
@@ -88,9 +87,8 @@ const ROWS: [(&str, &str); 20] = [
 ];
 
 #[test]
-fn scripts_print_their_replies(rt: HostRuntime) -> Result<(), Fail> {
+fn scripts_print_their_replies(rt: HostRuntime) {
     for (script, text) in ROWS {
-        must_print(rt.alloc(), script.as_bytes(), 0, text)?;
+        check_prints(rt.alloc(), &rt, script.as_bytes(), 0, text);
     }
-    Ok(())
 }

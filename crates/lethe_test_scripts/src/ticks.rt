@@ -1,12 +1,13 @@
 //! Ticks and their certificates.
 
-use lethe_base::Kind;
-use lethe_images::{disk_of, objects_of};
+use crate::common::{check_printed, empty_disk, must, run};
+use lethe_base::{Kind, Name};
+use lethe_images::objects_of;
 use lethe_memdisk::MemDisk;
-use lethe_rows::{SMALL, run_over};
+use lethe_rows::SMALL_WORDS;
 use sha2::{Digest, Sha256};
 use std::alloc::Global;
-use std::test::Fail;
+use std::process::Abort;
 
 /// A script, and what is printed of it, where H stands for the digest of the manifest that is there at the end; and whether an object still has the put of `a`.
 type Row = (&'static str, &'static str, bool);
@@ -108,76 +109,107 @@ const ROWS: [Row; 17] = [
     ),
 ];
 
-/// The SHA-256 of the one manifest that is there, in hexadecimal digits.
-fn digest_of(alloc: Global, disk: &mut MemDisk) -> Result<String, Fail> {
-    let mut found = None;
-    for (name, bytes) in objects_of(alloc, disk)? {
-        if name.kind == Kind::Manifest {
-            if found.is_some() {
-                return Err(Fail::new("one manifest"));
-            }
-            let mut hasher = Sha256::new();
-            hasher.update(&bytes);
-            found = Some(hex::encode(alloc, hasher.finalize().as_slice())?);
-        }
-    }
-    Ok(found.ok_or("a manifest")?)
+/// Each name of what is there, with its bytes.
+fn objects_on(alloc: Global, rt: &impl Abort, disk: &mut MemDisk) -> Vec<(Name, Vec<u8>)> {
+    must(rt, objects_of(alloc, disk))
+}
+
+fn is_manifest(object: &(Name, Vec<u8>)) -> bool {
+    object.0.kind == Kind::Manifest
+}
+
+/// The SHA-256 of bytes, in hexadecimal digits.
+fn hex_digest(alloc: Global, rt: &impl Abort, bytes: &[u8]) -> String {
+    let mut hasher = Sha256::new();
+    hasher.update(bytes);
+    hex::encode(alloc, hasher.finalize().as_slice()).expect(rt, "memory")
+}
+
+/// That of the one manifest that is there.
+fn digest_of(alloc: Global, rt: &impl Abort, disk: &mut MemDisk) -> String {
+    let objects = objects_on(alloc, rt, disk);
+    let mut manifests = objects.iter().filter(|object| is_manifest(object));
+    let (_, bytes) = manifests.next().expect(rt, "a manifest");
+    let digest = hex_digest(alloc, rt, bytes);
+    assert!(rt; manifests.next().is_none());
+    digest
+}
+
+fn has_put_in(bytes: &[u8]) -> bool {
+    bytes.windows(PUT.len()).any(|window| window == PUT)
 }
 
 /// Whether an object has the put in it.
-fn has_put(alloc: Global, disk: &mut MemDisk) -> Result<bool, Fail> {
-    for (_, bytes) in objects_of(alloc, disk)? {
-        if bytes.windows(PUT.len()).any(|window| window == PUT) {
-            return Ok(true);
-        }
-    }
-    Ok(false)
+fn has_put(alloc: Global, rt: &impl Abort, disk: &mut MemDisk) -> bool {
+    let objects = objects_on(alloc, rt, disk);
+    objects.iter().any(|object| has_put_in(&object.1))
 }
 
 /// The text with the digest in the place of H.
-fn with_digest(alloc: Global, text: &str, digest: &str) -> Result<String, Fail> {
-    match text.split_once('H') {
-        Some((front, behind)) => Ok(format!(in alloc; "{front}{digest}{behind}")?),
-        None => Ok(String::from_str(alloc, text)?),
-    }
+fn with_digest(alloc: Global, rt: &impl Abort, text: &str, digest: &str) -> String {
+    let (front, behind) = match text.split_once('H') {
+        Some((front, behind)) => (front, behind),
+        None => return String::from_str(alloc, text).expect(rt, "memory"),
+    };
+    format!(in alloc; "{front}{digest}{behind}").expect(rt, "memory")
+}
+
+/// Runs a script over a disk, which has to print that text, with the digest of the manifest that it leaves. Hands the disk back.
+fn certified(
+    alloc: Global,
+    rt: &impl Abort,
+    words: &[&str],
+    script: &str,
+    text: &str,
+    disk: MemDisk,
+) -> MemDisk {
+    let mut left = run(alloc, rt, words, script, disk);
+    let digest = digest_of(alloc, rt, &mut left.disk);
+    check_printed(rt, &left.printed, 0, &with_digest(alloc, rt, text, &digest));
+    left.disk
+}
+
+fn certified_small(
+    alloc: Global,
+    rt: &impl Abort,
+    script: &str,
+    text: &str,
+    disk: MemDisk,
+) -> MemDisk {
+    certified(alloc, rt, &SMALL_WORDS, script, text, disk)
+}
+
+fn check_row(alloc: Global, rt: &impl Abort, script: &str, text: &str, holds: bool) {
+    let mut disk = certified_small(alloc, rt, script, text, empty_disk(alloc, rt));
+    assert!(rt; has_put(alloc, rt, &mut disk) == holds, "{script}");
 }
 
 #[test]
-fn ticks_print_the_clock_and_a_certificate(rt: HostRuntime) -> Result<(), Fail> {
-    let alloc = rt.alloc();
+fn ticks_print_the_clock_and_a_certificate(rt: HostRuntime) {
     for (script, text, holds) in ROWS {
-        let disk = disk_of(alloc, &[])?;
-        let mut left = run_over(alloc, &SMALL, script.as_bytes(), &[], &[], disk)?;
-        let digest = digest_of(alloc, &mut left.disk)?;
-        left.printed
-            .must_be(0, &with_digest(alloc, text, &digest)?)?;
-        assert_eq!(rt; has_put(alloc, &mut left.disk)?, holds);
+        check_row(rt.alloc(), &rt, script, text, holds);
     }
-    Ok(())
 }
+
+/// Two runs over one disk, and what is printed of each.
+const RUNS: [(&str, &str); 2] = [
+    (
+        "1 tick 100\n",
+        "1 ok 1 clock 100 cert 1 before 0 sha256 H\n",
+    ),
+    (
+        "1 tick 99\n1 tick 250\n",
+        "1 backwards 100\n1 ok 2 clock 250 cert 2 before 150 sha256 H\n",
+    ),
+];
 
 /// The second run of a script goes on with the clock and the number of the certificates.
 #[test]
-fn certificates_are_numbered_over_the_whole_life_of_a_store(rt: HostRuntime) -> Result<(), Fail> {
-    let alloc = rt.alloc();
-    let mut disk = disk_of(alloc, &[])?;
-    for (script, text) in [
-        (
-            "1 tick 100\n",
-            "1 ok 1 clock 100 cert 1 before 0 sha256 H\n",
-        ),
-        (
-            "1 tick 99\n1 tick 250\n",
-            "1 backwards 100\n1 ok 2 clock 250 cert 2 before 150 sha256 H\n",
-        ),
-    ] {
-        let mut left = run_over(alloc, &SMALL, script.as_bytes(), &[], &[], disk)?;
-        let digest = digest_of(alloc, &mut left.disk)?;
-        left.printed
-            .must_be(0, &with_digest(alloc, text, &digest)?)?;
-        disk = left.disk;
+fn certificates_are_numbered_over_the_whole_life_of_a_store(rt: HostRuntime) {
+    let mut disk = empty_disk(rt.alloc(), &rt);
+    for (script, text) in RUNS {
+        disk = certified_small(rt.alloc(), &rt, script, text, disk);
     }
-    Ok(())
 }
 
 /// A put that a range erases, over one that it replaced.
@@ -187,26 +219,21 @@ const REPLACED: &str =
 const GONE: &str =
     "1 ok 1\n1 ok 2\n1 ok 3\n1 ok 4 clock 40\n1 ok 5\n1 ok 6\n1 at 6 none\n1 ok 7 clock 140 cert 1 before 40 sha256 H\n1 at 7 none\n";
 
+fn is_of_a_file(object: &(Name, Vec<u8>)) -> bool {
+    matches!(object.0.kind, Kind::File | Kind::Page)
+}
+
 /// Whether there is a header or a page of a file.
-fn has_file(alloc: Global, disk: &mut MemDisk) -> Result<bool, Fail> {
-    for (name, _) in objects_of(alloc, disk)? {
-        if name.kind == Kind::File || name.kind == Kind::Page {
-            return Ok(true);
-        }
-    }
-    Ok(false)
+fn has_file(alloc: Global, rt: &impl Abort, disk: &mut MemDisk) -> bool {
+    let objects = objects_on(alloc, rt, disk);
+    objects.iter().any(|object| is_of_a_file(object))
 }
 
 #[test]
-fn no_file_is_left_of_what_was_erased(rt: HostRuntime) -> Result<(), Fail> {
+fn no_file_is_left_of_what_was_erased(rt: HostRuntime) {
     let alloc = rt.alloc();
-    let disk = disk_of(alloc, &[])?;
-    let mut left = run_over(alloc, &SMALL, REPLACED.as_bytes(), &[], &[], disk)?;
-    let digest = digest_of(alloc, &mut left.disk)?;
-    left.printed
-        .must_be(0, &with_digest(alloc, GONE, &digest)?)?;
-    assert!(rt; !has_file(alloc, &mut left.disk)?);
-    Ok(())
+    let mut disk = certified_small(alloc, &rt, REPLACED, GONE, empty_disk(alloc, &rt));
+    assert!(rt; !has_file(alloc, &rt, &mut disk));
 }
 
 /// A script over the defaults: a retention in days, of which one is erased.
@@ -217,11 +244,7 @@ const RETAINED: &str =
     "1 ok 1\n1 ok 2\n1 ok 3 clock 5\n1 ok 4\n1 at 4 scan 1 user:18 20241 alice\n1 ok 5 clock 1005 cert 1 before 5 sha256 H\n";
 
 #[test]
-fn a_day_that_was_erased_is_gone_a_threshold_later(rt: HostRuntime) -> Result<(), Fail> {
-    let alloc = rt.alloc();
-    let disk = disk_of(alloc, &[])?;
-    let mut left = run_over(alloc, &["run"], RETENTION.as_bytes(), &[], &[], disk)?;
-    let digest = digest_of(alloc, &mut left.disk)?;
-    left.printed
-        .must_be(0, &with_digest(alloc, RETAINED, &digest)?)
+fn a_day_that_was_erased_is_gone_a_threshold_later(rt: HostRuntime) {
+    let disk = empty_disk(rt.alloc(), &rt);
+    certified(rt.alloc(), &rt, &["run"], RETENTION, RETAINED, disk);
 }

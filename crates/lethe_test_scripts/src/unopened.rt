@@ -1,11 +1,12 @@
 //! Disks that a run doesn't open, or where numbers run out, and runs that leave their disk untouched.
 
-use lethe_base::Kind;
+use crate::common::{answered, answered_small, check_printed, empty_disk, many, must};
+use lethe_base::{Kind, Name};
 use lethe_images::{add, disk_of, names_of, objects_of};
 use lethe_memdisk::MemDisk;
-use lethe_rows::{answered, bytes_of, filled, open_small, run_over};
+use lethe_rows::{Left, bytes_of, run_over};
 use std::alloc::Global;
-use std::test::Fail;
+use std::process::Abort;
 
 /// The greatest count and number.
 const LAST: u64 = 4_611_686_018_427_387_903;
@@ -24,14 +25,38 @@ const EMPTY: &[u8] = b"LS\x01\0\0\0\0\0\0\0\x01\0";
 const ONE: &[u8] =
     b"LS\x01\0\0\0\0\0\0\0\x01\x01\x01\0\0\0\0\0\0\0\x01\0\x01a\0\0\0\0\0\0\0\x05\0\x01x\0";
 
-// A disk with gate 2 and manifest 2, of this count of changes and next number.
-fn gated(alloc: Global, count: u64, next: u64) -> Result<MemDisk, Fail> {
+// Adds an object of a new name.
+fn add_to(alloc: Global, rt: &impl Abort, disk: &mut MemDisk, name: Name, bytes: &[u8]) {
+    must(rt, add(alloc, disk, name.kind, name.no, bytes));
+}
+
+const MANIFEST: Name = Name {
+    kind: Kind::Manifest,
+    no: 2,
+};
+
+const GATE: Name = Name {
+    kind: Kind::Gate,
+    no: 2,
+};
+
+const SEGMENT: Name = Name {
+    kind: Kind::Segment,
+    no: 1,
+};
+
+fn manifest_of(alloc: Global, rt: &impl Abort, count: u64, next: u64) -> Vec<u8> {
     let (count, next) = (count.to_be_bytes(), next.to_be_bytes());
-    let manifest = bytes_of(alloc, &[HEAD, &count, &next, TAIL])?;
-    let mut disk = disk_of(alloc, &[])?;
-    add(alloc, &mut disk, Kind::Manifest, 2, &manifest)?;
-    add(alloc, &mut disk, Kind::Gate, 2, &[])?;
-    Ok(disk)
+    must(rt, bytes_of(alloc, &[HEAD, &count, &next, TAIL]))
+}
+
+// A disk with gate 2 and manifest 2, of this count of changes and next number.
+fn gated(alloc: Global, rt: &impl Abort, count: u64, next: u64) -> MemDisk {
+    let mut disk = empty_disk(alloc, rt);
+    let manifest = manifest_of(alloc, rt, count, next);
+    add_to(alloc, rt, &mut disk, MANIFEST, &manifest);
+    add_to(alloc, rt, &mut disk, GATE, &[]);
+    disk
 }
 
 /// Counts of changes and next numbers, the status of a put, and what is printed of it.
@@ -43,78 +68,104 @@ const NUMBERS: [(u64, u64, u8, &str); 5] = [
     (0, LAST - 2, 0, "1 ok 1\n"),
 ];
 
+fn check_numbers(alloc: Global, rt: &impl Abort, disk: MemDisk, status: u8, text: &str) {
+    let mut disk = disk;
+    add_to(alloc, rt, &mut disk, SEGMENT, EMPTY);
+    answered(alloc, rt, "1 put a 5 x\n", disk, status, text);
+}
+
 #[test]
-fn numbers_run_out(rt: HostRuntime) -> Result<(), Fail> {
-    let alloc = rt.alloc();
+fn numbers_run_out(rt: HostRuntime) {
     for (count, next, status, text) in NUMBERS {
-        let mut disk = gated(alloc, count, next)?;
-        add(alloc, &mut disk, Kind::Segment, 1, EMPTY)?;
-        answered(alloc, "1 put a 5 x\n", disk, status, text)?;
+        let disk = gated(rt.alloc(), &rt, count, next);
+        check_numbers(rt.alloc(), &rt, disk, status, text);
     }
-    Ok(())
+}
+
+// A store without its segment isn't opened, and has the same names then.
+fn check_stays(alloc: Global, rt: &impl Abort, mut disk: MemDisk) -> MemDisk {
+    let before = must(rt, names_of(alloc, &mut disk));
+    let mut disk = answered(alloc, rt, "1 put a 5 y\n", disk, 8, "damaged segment 1\n");
+    assert!(rt; must(rt, names_of(alloc, &mut disk)) == before);
+    disk
 }
 
 #[test]
-fn a_store_without_its_segment_stays_as_it_was(rt: HostRuntime) -> Result<(), Fail> {
+fn a_store_without_its_segment_stays_as_it_was(rt: HostRuntime) {
     let alloc = rt.alloc();
-    let mut disk = gated(alloc, 0, 3)?;
-    let before = names_of(alloc, &mut disk)?;
-    let mut disk = answered(alloc, "1 put a 5 y\n", disk, 8, "damaged segment 1\n")?;
-    assert_eq!(rt; names_of(alloc, &mut disk)?, before);
-    add(alloc, &mut disk, Kind::Segment, 1, ONE)?;
-    answered(alloc, "1 get a\n", disk, 0, "1 at 1 val 5 x\n")?;
-    Ok(())
+    let mut disk = check_stays(alloc, &rt, gated(alloc, &rt, 0, 3));
+    add_to(alloc, &rt, &mut disk, SEGMENT, ONE);
+    answered(alloc, &rt, "1 get a\n", disk, 0, "1 at 1 val 5 x\n");
+}
+
+// Runs a word over a script, where these reads and writes fail.
+fn run_failing(
+    alloc: Global,
+    rt: &impl Abort,
+    word: &str,
+    script: &[u8],
+    failing: (&[u64], &[u64]),
+    disk: MemDisk,
+) -> Left {
+    must(
+        rt,
+        run_over(alloc, &[word], script, failing.0, failing.1, disk),
+    )
+}
+
+// A run whose sink fails leaves the objects as they are.
+fn check_unprinted(alloc: Global, rt: &impl Abort, mut disk: MemDisk) {
+    let before = must(rt, objects_of(alloc, &mut disk));
+    let mut left = run_failing(alloc, rt, "run", b"1 put a 5 y\n", (&[], &[1]), disk);
+    check_printed(rt, &left.printed, 5, "");
+    assert!(rt; must(rt, objects_of(alloc, &mut left.disk)) == before);
 }
 
 #[test]
-fn a_sink_that_fails_over_a_damaged_store_leaves_it_as_it_was(rt: HostRuntime) -> Result<(), Fail> {
-    let alloc = rt.alloc();
-    let mut disk = gated(alloc, 0, 3)?;
-    let before = objects_of(alloc, &mut disk)?;
-    let left = run_over(alloc, &["run"], b"1 put a 5 y\n", &[], &[1], disk)?;
-    left.printed.must_be(5, "")?;
-    let mut disk = left.disk;
-    assert_eq!(rt; objects_of(alloc, &mut disk)?, before);
-    Ok(())
+fn a_sink_that_fails_over_a_damaged_store_leaves_it_as_it_was(rt: HostRuntime) {
+    check_unprinted(rt.alloc(), &rt, gated(rt.alloc(), &rt, 0, 3));
 }
 
 #[test]
-fn a_store_of_another_configuration_is_not_opened(rt: HostRuntime) -> Result<(), Fail> {
+fn a_store_of_another_configuration_is_not_opened(rt: HostRuntime) {
     let alloc = rt.alloc();
-    let mut disk = disk_of(alloc, &[])?;
-    open_small(alloc, &mut disk)?;
     let text =
         "other config kept threshold=100 ratio=2 levels=2 page=2 tile=2 file=2 buffer=4 pick=so asked threshold=1000 ratio=4 levels=3 page=64 tile=4 file=8 buffer=512 pick=so\n";
-    let disk = answered(alloc, "1 put a 5 x\n", disk, 9, text)?;
-    answered(alloc, "1 get a\n", disk, 9, text)?;
-    Ok(())
+    let disk = answered_small(alloc, &rt, "", empty_disk(alloc, &rt), 0, "");
+    let disk = answered(alloc, &rt, "1 put a 5 x\n", disk, 9, text);
+    answered(alloc, &rt, "1 get a\n", disk, 9, text);
 }
 
 // Runs a word over a disk whose first call fails, and that call is still to come behind it.
-fn takes_no_call(
+fn check_takes_no_call(
     alloc: Global,
+    rt: &impl Abort,
     word: &str,
     script: &[u8],
     failing_reads: &[u64],
     status: u8,
     text: &str,
-) -> Result<(), Fail> {
-    let disk = disk_of(alloc, &[1])?;
-    let left = run_over(alloc, &[word], script, failing_reads, &[], disk)?;
-    left.printed.must_be(status, text)?;
+) {
+    let disk = must(rt, disk_of(alloc, &[1]));
+    let left = run_failing(alloc, rt, word, script, (failing_reads, &[]), disk);
+    check_printed(rt, &left.printed, status, text);
     let fault = "open fault before 0 after 1\n";
-    let disk = answered(alloc, "1 get a\n", left.disk, 6, fault)?;
-    answered(alloc, "1 get a\n", disk, 0, "1 at 0 none\n")?;
-    Ok(())
+    let disk = answered(alloc, rt, "1 get a\n", left.disk, 6, fault);
+    answered(alloc, rt, "1 get a\n", disk, 0, "1 at 0 none\n");
+}
+
+// A script whose second line has a key that is too long.
+fn long_script(alloc: Global, rt: &impl Abort) -> Vec<u8> {
+    let key = many(alloc, rt, b'k', 256);
+    let parts = [b"1 put a 5 x\n1 put ".as_slice(), &key, b" 7 v\n"];
+    must(rt, bytes_of(alloc, &parts))
 }
 
 #[test]
-fn a_run_without_a_script_takes_no_device_call(rt: HostRuntime) -> Result<(), Fail> {
+fn a_run_without_a_script_takes_no_device_call(rt: HostRuntime) {
     let alloc = rt.alloc();
-    let key = filled(alloc, b'k', 256)?;
-    let long = bytes_of(alloc, &[b"1 put a 5 x\n1 put ", &key, b" 7 v\n"])?;
-    takes_no_call(alloc, "run", &long, &[], 3, "line 2 bad key\n")?;
-    takes_no_call(alloc, "frob", b"1 put a 5 x\n", &[], 2, "bad words\n")?;
-    takes_no_call(alloc, "run", b"1 put a 5 x\n", &[1], 4, "")?;
-    Ok(())
+    let long = long_script(alloc, &rt);
+    check_takes_no_call(alloc, &rt, "run", &long, &[], 3, "line 2 bad key\n");
+    check_takes_no_call(alloc, &rt, "frob", b"1 put a 5 x\n", &[], 2, "bad words\n");
+    check_takes_no_call(alloc, &rt, "run", b"1 put a 5 x\n", &[1], 4, "");
 }

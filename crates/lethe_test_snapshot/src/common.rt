@@ -4,13 +4,14 @@ ghost use Rattle.lethe_base.specs.Limits.{max_place, max_time};
 ghost use Rattle.lethe_segment.specs.Records.{RecordHasSpelling};
 ghost use Rattle.lethe_state.specs.Writable.{IsWritable};
 
-use lethe_base::{Key, Range, Value};
+use lethe_base::Range;
 use lethe_disk::Disk;
 use lethe_manifest::read_manifest;
 use lethe_pins::Pins;
 use lethe_segment::Record;
 use lethe_snapshot::{Contents, Snapshot};
 use lethe_state::{Prepared, State};
+use lethe_test_values::{key_of, value_of};
 use lethe_version::Version;
 use std::alloc::Global;
 use std::test::Fail;
@@ -28,10 +29,6 @@ const CLOCK: usize = 36;
 
 /// The last byte of the time of its first erase.
 const ERASE: usize = 73;
-
-pub fn key_of(alloc: Global, text: &str) -> Result<Key, Fail> {
-    Ok(Key::new(text.as_bytes().to_vec(alloc)?)?)
-}
 
 /// The state of a new store.
 pub fn new_state(alloc: Global) -> Result<State, Fail>
@@ -99,7 +96,7 @@ pub fn put_since(
     ensures { OnOk result (IsWritable state.new) }
 {
     state.may_change()?;
-    let value = Value::new(text.as_bytes().to_vec(alloc)?)?;
+    let value = value_of(alloc, text.as_bytes())?;
     let next = match (state.put_record(key_of(alloc, text)?, 5, value), since) {
         (Record::Entry(mut entry), Some(time)) => {
             entry.since = Some(u64::from(time));

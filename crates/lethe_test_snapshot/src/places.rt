@@ -1,7 +1,7 @@
 //! Snapshots of a store with values in its active buffer, its frozen one and a file, which are deleted then.
 ghost use Rattle.lethe_state.specs.Writable.{IsWritable};
 
-use crate::common::{delete, filled, key_of, let_go, new_state, taken};
+use crate::common::{delete, filled, let_go, new_state, taken};
 use crate::files::version_of;
 use lethe_base::Refused;
 use lethe_disk::Disk;
@@ -9,6 +9,7 @@ use lethe_memdisk::{FlakyDisk, FlakyPort, MemDisk, MemPort};
 use lethe_pins::Pins;
 use lethe_snapshot::Snapshot;
 use lethe_state::State;
+use lethe_test_values::key_of;
 use lethe_version::Version;
 use std::alloc::Global;
 use std::test::Fail;

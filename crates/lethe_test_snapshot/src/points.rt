@@ -1,11 +1,12 @@
 //! Snapshots that are read once the state has changed.
 ghost use Rattle.lethe_state.specs.Writable.{IsWritable};
 
-use crate::common::{delete, filled, key_of, let_go, new_state, put, state_at, taken};
+use crate::common::{delete, filled, let_go, new_state, put, state_at, taken};
 use lethe_memdisk::{MemDisk, MemPort};
 use lethe_pins::Pins;
 use lethe_snapshot::Snapshot;
 use lethe_state::State;
+use lethe_test_values::key_of;
 use lethe_version::Version;
 use std::alloc::Global;
 use std::test::Fail;

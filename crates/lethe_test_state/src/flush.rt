@@ -2,7 +2,7 @@
 ghost use Rattle.std.specs.Prelude.{◌≤◌, length, All, IfOk};
 ghost use Rattle.lethe_base.specs.Spelling.{HasSpelling};
 
-use crate::common::{SMALL, config_of};
+use crate::common::config_of;
 use lethe_base::{Kind, List, Pending, Range};
 use lethe_build::Draft;
 use lethe_commit::Object;
@@ -12,6 +12,7 @@ use lethe_manifest::Cited;
 use lethe_mem::VecBuffer;
 use lethe_memdisk::MemDisk;
 use lethe_segment::{Record, replay};
+use lethe_test_values::SMALL;
 use lethe_version::Version;
 use std::alloc::Global;
 use std::process::Abort;

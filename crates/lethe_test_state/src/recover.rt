@@ -1,11 +1,12 @@
 //! Stores that are opened, and what isn't opened.
 
-use crate::common::{SMALL, config_of};
+use crate::common::config_of;
 use lethe_base::{Fields, Kind, MAX_PLACE, Name};
 use lethe_disk::Disk;
 use lethe_manifest::Manifest;
 use lethe_memdisk::MemDisk;
 use lethe_recover::{OpenWhy, Opened, open};
+use lethe_test_values::SMALL;
 use lethe_version::Version;
 use std::alloc::Global;
 use std::process::Abort;

@@ -8,7 +8,6 @@ ghost use Rattle.lethe_state.specs.Clock.{clock_of};
 ghost use Rattle.lethe_state.specs.Room.{IsStepFrom};
 ghost use Rattle.lethe_state.specs.Writable.{IsWritable};
 
-use crate::common::{key_of, value_of};
 use lethe_advance::Step;
 use lethe_base::{Kind, Name, Refused};
 use lethe_manifest::{Manifest, read_manifest};
@@ -16,6 +15,7 @@ use lethe_mem::Buffer;
 use lethe_memdisk::MemDisk;
 use lethe_segment::{Record, new_segment};
 use lethe_state::{Prepared, State};
+use lethe_test_values::{key_of, value_of};
 use lethe_version::Version;
 use std::alloc::Global;
 use std::process::Abort;
@@ -51,7 +51,7 @@ fn put(alloc: Global, state: &mut State, text: &str) -> Result<(), Fail>
     ensures { OnOk result (IsWritable state.new) }
 {
     state.may_change()?;
-    let next = state.put_record(key_of(alloc, text)?, 5, value_of(alloc, "x")?);
+    let next = state.put_record(key_of(alloc, text)?, 5, value_of(alloc, b"x")?);
     enter(alloc, state, next)
 }
 

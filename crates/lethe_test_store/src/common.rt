@@ -3,35 +3,16 @@ ghost use Rattle.std.specs.Prelude.{IfOk};
 ghost use Rattle.lethe_core.specs.Running.{IsSound};
 ghost use Rattle.lethe_core.specs.View.{view_of};
 
-use lethe_base::{Config, Fields, Key, Pick, Value};
+use lethe_base::{Config, Fields};
 use lethe_disk::Disk;
 use lethe_drive::Engine;
 use lethe_memdisk::MemDisk;
+use lethe_test_values::SMALL;
 use std::alloc::Global;
 use std::test::Fail;
 
-/// A small configuration.
-const SMALL: Fields = Fields {
-    threshold: 100,
-    ratio: 2,
-    levels: 2,
-    page: 2,
-    tile: 2,
-    file: 2,
-    buffer: 4,
-    pick: Pick::So,
-};
-
 fn config_of(fields: Fields) -> Result<Config, Fail> {
     Ok(Config::new(fields)?)
-}
-
-pub fn key_of(alloc: Global, text: &str) -> Result<Key, Fail> {
-    Ok(Key::new(text.as_bytes().to_vec(alloc)?)?)
-}
-
-pub fn value_of(alloc: Global, text: &str) -> Result<Value, Fail> {
-    Ok(Value::new(text.as_bytes().to_vec(alloc)?)?)
 }
 
 /// An empty disk, none of whose calls fails.

@@ -3,11 +3,12 @@ ghost use Rattle.std.specs.Prelude.{IfOk};
 ghost use Rattle.lethe_core.specs.Running.{IsSound};
 ghost use Rattle.lethe_core.specs.View.{view_of};
 
-use crate::common::{empty_disk, key_of, opened, value_of};
+use crate::common::{empty_disk, opened};
 use lethe_base::{Kind, Range, Refused};
 use lethe_disk::Disk;
 use lethe_drive::{Engine, Event, Reply, Time, drive};
 use lethe_memdisk::{FlakyDisk, MemDisk};
+use lethe_test_values::{key_of, value_of};
 use std::alloc::Global;
 use std::test::Fail;
 
@@ -81,7 +82,7 @@ fn put_of(alloc: Global, text: &str) -> Result<Event, Fail> {
     Ok(Event::Put {
         key: key_of(alloc, text)?,
         dkey: 7,
-        value: value_of(alloc, text)?,
+        value: value_of(alloc, text.as_bytes())?,
     })
 }
 

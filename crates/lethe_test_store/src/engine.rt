@@ -3,9 +3,10 @@ ghost use Rattle.std.specs.Prelude.{IfOk};
 ghost use Rattle.lethe_core.specs.Running.{IsSound};
 ghost use Rattle.lethe_core.specs.View.{view_of};
 
-use crate::common::{empty_disk, key_of, opened, value_of};
+use crate::common::{empty_disk, opened};
 use lethe_disk::Disk;
 use lethe_drive::{Engine, Stat};
+use lethe_test_values::{key_of, value_of};
 use std::alloc::Global;
 use std::test::Fail;
 
@@ -40,7 +41,7 @@ fn put<D: Disk>(alloc: Global, engine: &mut Engine<D>, text: &str, dkey: u64) ->
     ensures { IsSound D.tells (view_of engine.new.core) }
 {
     let key = key_of(alloc, text)?;
-    let value = value_of(alloc, text)?;
+    let value = value_of(alloc, text.as_bytes())?;
     let mut port = engine.new_port(alloc)?;
     Ok(engine.put(alloc, &mut port, key, dkey, value)?)
 }

@@ -1,7 +1,0 @@
-use Rattle.lethe_core.specs.Running.{IsSound}
-use Rattle.lethe_core.specs.View.{view_of}
-use Rattle.lethe_test_pinned.proofs.asks.put_all.Given as goal
-
--- each call leaves it sound
-abbrev pub invariant-loop-text : goal.invariant-loop-text
-invariant-loop-text g l = IsSound g.D.Disk.tells (view_of l.engine.core)
