@@ -1,7 +1,9 @@
-//! Scripts that are made from a seed, for tests, and what a plain map prints for them.
+//! Scripts that are made from a seed, for tests, what a plain map prints for them, and a reader of what scripts of several callers print.
 #![tactic(auto)]
 
 mod answers;
 mod generated;
+mod transcript;
 
 pub use generated::{Generated, Lines, READ_AND_PUT};
+pub use transcript::first_wrong_line;
