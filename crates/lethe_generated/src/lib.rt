@@ -2,8 +2,10 @@
 #![tactic(auto)]
 
 mod answers;
+mod callers;
 mod generated;
 mod transcript;
 
+pub use callers::CallersScript;
 pub use generated::{Generated, Lines, READ_AND_PUT};
 pub use transcript::first_wrong_line;
