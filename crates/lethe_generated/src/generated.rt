@@ -8,7 +8,7 @@ use std::collections::BTreeMap;
 use std::test::Fail;
 
 /// The letters of the keys.
-const LETTERS: [&str; 6] = ["a", "b", "c", "d", "e", "f"];
+pub(crate) const LETTERS: [&str; 6] = ["a", "b", "c", "d", "e", "f"];
 
 /// A range that has all keys.
 const ALL: (&str, &str) = ("a", "g");
@@ -17,7 +17,7 @@ const ALL: (&str, &str) = ("a", "g");
 pub const READ_AND_PUT: &str = "1 scan a g\n1 put a 9 more\n1 get a\n";
 
 // The words of a small configuration: few entries make a file, and few files a full level.
-fn words_of(alloc: Global, dice: &mut Dice) -> Result<Vec<&'static str>, Fail> {
+pub(crate) fn words_of(alloc: Global, dice: &mut Dice) -> Result<Vec<&'static str>, Fail> {
     let mut words = SMALL_WORDS;
     let page = dice.one_of(&["1", "2"]);
     let tile = dice.one_of(&["1", "2"]);

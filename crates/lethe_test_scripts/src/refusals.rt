@@ -6,7 +6,7 @@ use std::alloc::Global;
 use std::process::Abort;
 
 /// Bytes that are no script, and what is said of them.
-const BAD_SCRIPTS: [(&[u8], &str); 29] = [
+const BAD_SCRIPTS: [(&[u8], &str); 34] = [
     (b"1 frob\n", "line 1 bad command\n"),
     (b"1 erase 20 10\n", "line 1 bad range\n"),
     (b"1 erase 5 5\n", "line 1 bad range\n"),
@@ -18,9 +18,14 @@ const BAD_SCRIPTS: [(&[u8], &str); 29] = [
     (b"1 tick 4611686018427387905\n", "line 1 bad number\n"),
     (b"1 tick 05\n", "line 1 bad number\n"),
     (b"1\n", "line 1 bad command\n"),
-    (b"2 get a\n", "line 1 bad caller\n"),
-    (b"phase\n", "line 1 bad caller\n"),
+    (b"9 get a\n", "line 1 bad caller\n"),
+    (b"0 get a\n", "line 1 bad caller\n"),
     (b"01 get a\n", "line 1 bad caller\n"),
+    (b"phases\n", "line 1 bad caller\n"),
+    (b"phase x\n", "line 1 bad count\n"),
+    (b"1 phase\n", "line 1 bad command\n"),
+    (b"phase\n\nphase\n8 frob\n", "line 4 bad command\n"),
+    (b"1 pin 0\n2 pget 0 a\n", "line 2 bad slot\n"),
     (b"1 get a\n1 get a b\n", "line 2 bad count\n"),
     (b"# none\n\n1 put a\n", "line 3 bad count\n"),
     (b"1 put a 05 x\n", "line 1 bad number\n"),

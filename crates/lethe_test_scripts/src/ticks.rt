@@ -169,7 +169,8 @@ fn certified(
     left.disk
 }
 
-fn certified_small(
+/// The same with the small configuration.
+pub fn certified_small(
     alloc: Global,
     rt: &impl Abort,
     script: &str,
