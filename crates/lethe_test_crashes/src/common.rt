@@ -65,18 +65,6 @@ pub fn answered_for(
     left.disk
 }
 
-/// The same with the default configuration.
-pub fn answered(
-    alloc: Global,
-    rt: &impl Abort,
-    script: &str,
-    disk: MemDisk,
-    status: u8,
-    text: &str,
-) -> MemDisk {
-    answered_for(alloc, rt, &["run"], script, disk, status, text)
-}
-
 /// The same with the small configuration.
 pub fn answered_small(
     alloc: Global,

@@ -1,12 +1,13 @@
-//! Runs over a disk: what they leave on it, and what a crash leaves of that.
+//! Runs over a disk with the small configuration: what they leave on it, and what a crash leaves of that.
 
-use crate::common::{answered, check_printed, empty_disk, failing_disk, must, run};
-use lethe_base::{Config, Fields};
+use crate::common::{answered_small, check_printed, empty_disk, failing_disk, must, run};
+use lethe_base::Config;
 use lethe_images::{IMAGES, crashed};
 use lethe_load::load;
 use lethe_memdisk::MemDisk;
-use lethe_rows::{Left, run_over};
+use lethe_rows::{Left, SMALL_WORDS, run_over};
 use lethe_segment::Record;
+use lethe_test_values::SMALL;
 use std::alloc::Global;
 use std::process::Abort;
 
@@ -30,7 +31,7 @@ fn stopped(alloc: Global, rt: &impl Abort, calls: u64) -> MemDisk {
 // The status of a script over an empty disk that is stopped behind so many calls.
 fn status_of(alloc: Global, rt: &impl Abort, script: &str, calls: u64) -> u8 {
     let disk = stopped(alloc, rt, calls);
-    run(alloc, rt, &["run"], script, disk).printed.status
+    run(alloc, rt, &SMALL_WORDS, script, disk).printed.status
 }
 
 // How many device calls the script takes over an empty disk before its status is 0.
@@ -63,7 +64,7 @@ fn a_put_takes_four_calls(rt: HostRuntime) {
 
 // What is read of `a` from a disk.
 fn check_read(alloc: Global, rt: &impl Abort, disk: MemDisk, text: &str) {
-    answered(alloc, rt, "1 get a\n", disk, 0, text);
+    answered_small(alloc, rt, "1 get a\n", disk, 0, text);
 }
 
 // What is read of `a` from what a crash after so many calls leaves of a disk. A gate byte that wasn't synced may be left
@@ -118,7 +119,7 @@ fn reads_behind(calls: u64) -> (&'static str, &'static str) {
 fn check_put_stopped(alloc: Global, rt: &impl Abort, calls: u64) {
     let (status, text) = put_stopped(calls);
     let disk = stopped(alloc, rt, calls);
-    let disk = answered(alloc, rt, "1 put a 5 x\n", disk, status, text);
+    let disk = answered_small(alloc, rt, "1 put a 5 x\n", disk, status, text);
     let (kept, crashed_to) = reads_behind(calls);
     check_reads(alloc, rt, disk, calls, kept, crashed_to);
 }
@@ -133,9 +134,9 @@ fn a_put_that_is_stopped_counts_from_its_gate_byte_on(rt: HostRuntime) {
 // Stops the second run over a disk behind so many of its calls. Whether it wasn't done by then.
 fn is_stopped(alloc: Global, rt: &impl Abort, calls: u64) -> bool {
     let disk = empty_disk(alloc, rt);
-    let mut disk = answered(alloc, rt, "1 put a 5 x\n", disk, 0, "1 ok 1\n");
+    let mut disk = answered_small(alloc, rt, "1 put a 5 x\n", disk, 0, "1 ok 1\n");
     disk.fuse(calls);
-    let Left { printed, disk } = run(alloc, rt, &["run"], "1 get a\n", disk);
+    let Left { printed, disk } = run(alloc, rt, &SMALL_WORDS, "1 get a\n", disk);
     let all = calls.saturating_add(OPENING + PUT);
     check_reads(alloc, rt, disk, all, HELD, HELD);
     printed.status != 0
@@ -157,7 +158,7 @@ fn check_failing(alloc: Global, rt: &impl Abort, call: u64, kept: &str) {
     let text = "1 fault 1 before 0 after 1\n1 stopped 1\n1 at 1 none\n";
     let calls = call.saturating_add(OPENING);
     let disk = failing_disk(alloc, rt, &[calls]);
-    let disk = answered(alloc, rt, script, disk, 6, text);
+    let disk = answered_small(alloc, rt, script, disk, 6, text);
     check_reads(alloc, rt, disk, calls, kept, NONE);
 }
 
@@ -172,7 +173,7 @@ fn a_change_that_fails_stops_the_later_ones(rt: HostRuntime) {
 // The disk behind a put whose line isn't written.
 fn unprinted(alloc: Global, rt: &impl Abort) -> MemDisk {
     let disk = empty_disk(alloc, rt);
-    let left = run_over(alloc, &["run"], b"1 put a 5 x\n", &[], &[1], disk);
+    let left = run_over(alloc, &SMALL_WORDS, b"1 put a 5 x\n", &[], &[1], disk);
     let left = must(rt, left);
     check_printed(rt, &left.printed, 5, "");
     left.disk
@@ -199,7 +200,7 @@ const RUNS: [(&str, &str); 5] = [
 fn one_run_goes_on_where_another_ended(rt: HostRuntime) {
     let mut disk = empty_disk(rt.alloc(), &rt);
     for (script, text) in RUNS {
-        disk = answered(rt.alloc(), &rt, script, disk, 0, text);
+        disk = answered_small(rt.alloc(), &rt, script, disk, 0, text);
     }
 }
 
@@ -218,7 +219,7 @@ fn counts_of(records: &[Record]) -> (usize, usize) {
 
 // How many of them the journal of a disk has.
 fn records_of(alloc: Global, rt: &impl Abort, disk: &mut MemDisk) -> (usize, usize) {
-    let config = Config::new(Fields::default()).expect(rt, "a configuration");
+    let config = Config::new(SMALL).expect(rt, "a configuration");
     let read = load(alloc, disk, &config).expect(rt, "a store");
     let segment = read.segments.items().first().expect(rt, "a segment");
     counts_of(segment.items())
@@ -239,7 +240,7 @@ fn check_deletes(
     text: &str,
     records: (usize, usize),
 ) {
-    let mut disk = answered(alloc, rt, script, empty_disk(alloc, rt), 0, text);
+    let mut disk = answered_small(alloc, rt, script, empty_disk(alloc, rt), 0, text);
     assert!(rt; records_of(alloc, rt, &mut disk) == records, "{script}");
 }
 

@@ -15,3 +15,5 @@ mod loose;
 mod memdisk;
 #[cfg(test)]
 mod switches;
+#[cfg(test)]
+mod vectors;

@@ -70,8 +70,8 @@ const IMAGES: [(u64, bool, usize); 7] = [
     (5, false, 2),
 ];
 
-// A disk behind such a switch.
-fn switched(alloc: Global, rt: &impl Abort) -> MemDisk
+/// A disk behind such a switch.
+pub fn switched(alloc: Global, rt: &impl Abort) -> MemDisk
     ensures { 5 ≤ calls_of result }
 {
     let mut disk = must(rt, empty_disk(alloc, Vec::new(alloc)));

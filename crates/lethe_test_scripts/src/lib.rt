@@ -18,10 +18,18 @@ mod phases;
 #[cfg(test)]
 mod pins;
 #[cfg(test)]
+mod places;
+#[cfg(test)]
 mod refusals;
+#[cfg(test)]
+mod retention;
+#[cfg(test)]
+mod scarce;
 #[cfg(test)]
 mod scripts;
 #[cfg(test)]
 mod ticks;
 #[cfg(test)]
 mod unopened;
+#[cfg(test)]
+mod worked;

@@ -238,7 +238,7 @@ fn no_file_is_left_of_what_was_erased(rt: HostRuntime) {
 }
 
 /// A script over the defaults: a retention in days, of which one is erased.
-const RETENTION: &str =
+pub const RETENTION: &str =
     "# retention in days\n1 put user:17 20240 =7b7d\n1 put user:18 20241 alice\n1 tick 5\n1 erase 20240 20241\n1 scan user:0 user:9\n1 tick 1005\n";
 
 const RETAINED: &str =

@@ -1,4 +1,4 @@
-//! Disks that a run doesn't open, or where numbers run out, and runs that leave their disk untouched.
+//! Disks that a run doesn't open, and runs that leave their disk untouched.
 
 use crate::common::{answered, answered_small, check_printed, empty_disk, many, must};
 use lethe_base::{Kind, Name};
@@ -8,9 +8,6 @@ use lethe_rows::{Left, bytes_of, run_over};
 use std::alloc::Global;
 use std::process::Abort;
 
-/// The greatest count and number.
-const LAST: u64 = 4_611_686_018_427_387_903;
-
 /// Manifest 2 of the default configuration, up to its count.
 const HEAD: &[u8] =
     b"LM\x01\0\0\0\0\0\0\0\x02\0\0\0\0\0\0\x03\xe8\x04\x03\0\x40\x04\0\x08\x02\0\0\0\0\0\0\0\0\0\0";
@@ -18,15 +15,12 @@ const HEAD: &[u8] =
 /// What follows its next number. It cites segment 1.
 const TAIL: &[u8] = b"\0\0\0\0\0\x01\0\0\0\0\0\0\0\x01\0\0\0\0";
 
-/// Segment 1 with no record.
-const EMPTY: &[u8] = b"LS\x01\0\0\0\0\0\0\0\x01\0";
-
 /// Segment 1 with one put.
 const ONE: &[u8] =
     b"LS\x01\0\0\0\0\0\0\0\x01\x01\x01\0\0\0\0\0\0\0\x01\0\x01a\0\0\0\0\0\0\0\x05\0\x01x\0";
 
-// Adds an object of a new name.
-fn add_to(alloc: Global, rt: &impl Abort, disk: &mut MemDisk, name: Name, bytes: &[u8]) {
+/// Adds an object of a new name.
+pub fn add_to(alloc: Global, rt: &impl Abort, disk: &mut MemDisk, name: Name, bytes: &[u8]) {
     must(rt, add(alloc, disk, name.kind, name.no, bytes));
 }
 
@@ -40,46 +34,24 @@ const GATE: Name = Name {
     no: 2,
 };
 
-const SEGMENT: Name = Name {
+pub const SEGMENT: Name = Name {
     kind: Kind::Segment,
     no: 1,
 };
 
-fn manifest_of(alloc: Global, rt: &impl Abort, count: u64, next: u64) -> Vec<u8> {
+// The manifest that begins so, up to its count of changes, with this count and next number.
+fn manifest_of(alloc: Global, rt: &impl Abort, head: &[u8], count: u64, next: u64) -> Vec<u8> {
     let (count, next) = (count.to_be_bytes(), next.to_be_bytes());
-    must(rt, bytes_of(alloc, &[HEAD, &count, &next, TAIL]))
+    must(rt, bytes_of(alloc, &[head, &count, &next, TAIL]))
 }
 
-// A disk with gate 2 and manifest 2, of this count of changes and next number.
-fn gated(alloc: Global, rt: &impl Abort, count: u64, next: u64) -> MemDisk {
+/// A disk with gate 2 and the manifest 2 that begins so, of this count of changes and next number.
+pub fn gated(alloc: Global, rt: &impl Abort, head: &[u8], count: u64, next: u64) -> MemDisk {
     let mut disk = empty_disk(alloc, rt);
-    let manifest = manifest_of(alloc, rt, count, next);
+    let manifest = manifest_of(alloc, rt, head, count, next);
     add_to(alloc, rt, &mut disk, MANIFEST, &manifest);
     add_to(alloc, rt, &mut disk, GATE, &[]);
     disk
-}
-
-/// Counts of changes and next numbers, the status of a put, and what is printed of it.
-const NUMBERS: [(u64, u64, u8, &str); 5] = [
-    (LAST, 3, 6, "1 exhausted 4611686018427387903\n"),
-    (LAST - 1, 3, 0, "1 ok 4611686018427387903\n"),
-    (0, LAST, 6, "open exhausted 4611686018427387903\n"),
-    (0, LAST - 1, 6, "open exhausted 4611686018427387903\n"),
-    (0, LAST - 2, 0, "1 ok 1\n"),
-];
-
-fn check_numbers(alloc: Global, rt: &impl Abort, disk: MemDisk, status: u8, text: &str) {
-    let mut disk = disk;
-    add_to(alloc, rt, &mut disk, SEGMENT, EMPTY);
-    answered(alloc, rt, "1 put a 5 x\n", disk, status, text);
-}
-
-#[test]
-fn numbers_run_out(rt: HostRuntime) {
-    for (count, next, status, text) in NUMBERS {
-        let disk = gated(rt.alloc(), &rt, count, next);
-        check_numbers(rt.alloc(), &rt, disk, status, text);
-    }
 }
 
 // A store without its segment isn't opened, and has the same names then.
@@ -93,7 +65,7 @@ fn check_stays(alloc: Global, rt: &impl Abort, mut disk: MemDisk) -> MemDisk {
 #[test]
 fn a_store_without_its_segment_stays_as_it_was(rt: HostRuntime) {
     let alloc = rt.alloc();
-    let mut disk = check_stays(alloc, &rt, gated(alloc, &rt, 0, 3));
+    let mut disk = check_stays(alloc, &rt, gated(alloc, &rt, HEAD, 0, 3));
     add_to(alloc, &rt, &mut disk, SEGMENT, ONE);
     answered(alloc, &rt, "1 get a\n", disk, 0, "1 at 1 val 5 x\n");
 }
@@ -123,7 +95,7 @@ fn check_unprinted(alloc: Global, rt: &impl Abort, mut disk: MemDisk) {
 
 #[test]
 fn a_sink_that_fails_over_a_damaged_store_leaves_it_as_it_was(rt: HostRuntime) {
-    check_unprinted(rt.alloc(), &rt, gated(rt.alloc(), &rt, 0, 3));
+    check_unprinted(rt.alloc(), &rt, gated(rt.alloc(), &rt, HEAD, 0, 3));
 }
 
 #[test]
