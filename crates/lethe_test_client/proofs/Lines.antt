@@ -166,8 +166,7 @@ tick_answered P from upto course h s t (Answer c1 r1 ∷ Answer c2 r2 ∷ []) th
     let behind = behind_put course h tick_order c1 c2 r1 r2 served.answered served.turns sure in
     let early : (after (take 1 h)).clock ≡ 0 = ap (λ l. (after l).clock) behind.1.put in
     let done = tick_done (told course h) 1 1 behind.0 1000 r2 behind.1.unrefused behind.1.answered behind.1.follows (unbarred P from upto s t c1 c2 r1 r2 free known behind.1.done) (omega (arith, early)) in
-    let first = first_tick course h done.0 threshold behind.1.put done.2 done.4 in
-    (
+    let first = first_tick course h done.0 threshold behind.1.put done.2 done.4 in (
       done.0,
       first.0,
       first.1,
