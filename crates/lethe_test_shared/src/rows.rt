@@ -114,3 +114,19 @@ fn a_session_split_from_one_that_has_seen_ten_changes_sees_ten(rt: HostRuntime) 
     let engine = store.finish(&rt, one);
     assert!(rt; engine.count() == 10);
 }
+
+#[test]
+fn a_snapshot_is_read_through_the_port_of_a_session(rt: HostRuntime) {
+    let alloc = rt.alloc();
+    let mut engine = opened(alloc, &rt, empty(alloc, &rt));
+    let Ok(snapshot) = engine.pin(alloc) else {
+        panic!(rt; "memory")
+    };
+    let (store, mut one) = shared(alloc, &rt, engine);
+    puts_at(alloc, &rt, &store, &mut one, ("a", "later"), 1);
+    let found = snapshot.get(alloc, one.port(), &key_of(alloc, &rt, "a"));
+    assert!(rt; matches!(found, Ok(None)));
+    has_at(alloc, &rt, &store, &mut one, ("a", "later"), 1);
+    let mut engine = store.finish(&rt, one);
+    engine.release(snapshot);
+}

@@ -53,4 +53,4 @@ returns g c =
     (ap (λ m. m.0) f.1) c.in-Ok.ensures.split a b c.join-one.result.0.1 c.join-one.result.1.1
     (subst (λ n. HasDone (entries_by n (Makes a) (result_err c.join-one.result.0.1)) [] v left) (c.in-Ok.ensures.of.1 ∙ c.in_ok-store.ensures.of.1) c.join-one.ensures.first.1.1.0)
     (subst (λ n. HasDone (entries_by n (Makes b) (result_err c.join-one.result.1.1)) [] w right) c.in-Ok.ensures.other_of.1 c.join-one.ensures.second.1.1.0)
-    c.join-one.ensures.first.1.1.1 c.join-one.ensures.second.1.1.1 c.join.ensures.joined c.finish-engine.ensures
+    c.join-one.ensures.first.1.1.1 c.join-one.ensures.second.1.1.1 c.join.ensures.joined c.finish-engine.ensures.finished
