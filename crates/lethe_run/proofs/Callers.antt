@@ -1,12 +1,11 @@
 -- The orders and the lines of each caller, and a phase that is carried out caller by caller.
-use Rattle.std.proofs.Common.{◌≡◌, ◌≢◌, ◌⊎◌, ◌≤◌, ◌<◌, inl, inr, ℕ, zero, suc, ◌+◌, Bool, true, false, cond, List, [], ◌∷◌, ◌++◌, map, length, get_or, All, Option, Some, refl, sym, ap, ◌∙◌, subst, arith, append_assoc, append-nil}
+use Rattle.std.proofs.Common.{◌≡◌, ◌≢◌, ◌⊎◌, ◌≤◌, ◌<◌, inl, inr, ℕ, zero, suc, ◌+◌, Bool, true, false, cond, List, [], ◌∷◌, ◌++◌, map, length, get_or, All, Option, Some, refl, sym, ap, ◌∙◌, subst, arith, append-nil}
 use Rattle.std.specs.Prelude.{◌==◌, filter, slice_set}
 use Rattle.std.specs.List.{flat_map, sum_by}
 use Rattle.std.proofs.lemmas.Bool.{cases_lt, eq-eqb, eqb-true, ne_eqb}
-use Rattle.std.proofs.lemmas.List.{get_or-set_other, get_or-set_same, length-append, length-set, map-append}
+use Rattle.std.proofs.lemmas.List.{get_or-set_other, get_or-set_same, length-append, length-set}
 use Rattle.std.proofs.lemmas.List.Elements.{All-append, All-cons, All-nil, All-set, All-tail, All-weaker, filter-append, filter_passes}
 use Rattle.std.proofs.lemmas.List.Sums.{sum_by-append, sum_by-cons}
-use Rattle.lethe_base.specs.History.{History}
 use Rattle.lethe_disk.specs.declared.disk.Disk.{Ghosts}
 use Rattle.lethe_snapshot.specs.declared.snapshot.Snapshot.{Snapshot}
 use Rattle.lethe_core.specs.View.{View}
@@ -19,9 +18,8 @@ use Rattle.lethe_run.specs.Callers.{AreAll, AreFronts, IsCaller, IsPhaseOfAll, e
 use Rattle.lethe_run.specs.Ends.{IsFrontByCaller}
 use Rattle.lethe_run.specs.Holding.{AreShown, AreTen, held_at, held_for, held_in, slots_for, slots_of}
 use Rattle.lethe_run.specs.Rows.{IsStretch}
-use Rattle.lethe_run.specs.Serving.{IsOn, IsPhase, Point}
-use Rattle.lethe_run.specs.Slots.{AreInSlots, Slots, no_slots}
-use Rattle.lethe_run.specs.Transcript.{Start, callers, is_of, places_behind, printed}
+use Rattle.lethe_run.specs.Slots.{AreInSlots, no_slots}
+use Rattle.lethe_run.specs.Transcript.{callers, is_of, places_behind}
 use Rattle.lethe_run.proofs.Anywhere.{later_itself, told_wider}
 use Rattle.lethe_run.proofs.Calm.{printed_len}
 use Rattle.lethe_run.proofs.Holding.{shown_later}

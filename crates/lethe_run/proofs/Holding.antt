@@ -1,8 +1,8 @@
 -- What slots hold, as a line tells it and as a script sees it.
-use Rattle.std.proofs.Common.{◌≡◌, ◌<◌, ℕ, zero, suc, ◌+◌, Bool, true, false, cond, List, [], ◌∷◌, ◌++◌, map, length, get_or, Option, Some, None, Result, Ok, Err, refl, sym, ap, ◌∙◌, subst, arith}
+use Rattle.std.proofs.Common.{◌≡◌, ◌<◌, ℕ, zero, suc, ◌+◌, Bool, true, false, cond, List, [], ◌∷◌, ◌++◌, length, get_or, Option, Some, None, Result, Ok, Err, refl, sym, ap, ◌∙◌, subst, arith}
 use Rattle.std.specs.Prelude.{All, IfSome, IsSome, OnOk, is_some, option_map, replicate, slice_set}
 use Rattle.std.proofs.Math.ListN.{get_or-map}
-use Rattle.std.proofs.lemmas.List.{length-append, length-map, length-set, map-set, replicate_more, take-append-le, take_all}
+use Rattle.std.proofs.lemmas.List.{length-append, length-set, map-set, replicate_more, take-append-le, take_all}
 use Rattle.std.proofs.lemmas.List.Elements.{All-replicate, All-set, All-weaker}
 use Rattle.lethe_base.specs.History.{History}
 use Rattle.lethe_disk.specs.declared.disk.Disk.{Ghosts}

@@ -7,8 +7,6 @@ use Rattle.std.proofs.lemmas.List.Folds.{list_any-append}
 use Rattle.std.proofs.lemmas.List.Sums.{sum_by-append, sum_by-cons}
 use Rattle.lethe_script.specs.declared.order.Order.{Order}
 use Rattle.lethe_run.specs.declared.reply.Line.{Line}
-use Rattle.lethe_run.specs.declared.reply.Line.TheVariants as line
-use Rattle.lethe_run.specs.Anywhere.{AreTold, Standing}
 use Rattle.lethe_run.specs.Refusals.{IsFirst, IsFirstOr, all_of}
 use Rattle.lethe_run.specs.Transcript.{has_refusal, is_refusal}
 

@@ -1,5 +1,5 @@
 -- What replies leave in the slots of their caller.
-use Rattle.std.proofs.Common.{◌≡◌, ℕ, List, [], ◌∷◌, ◌++◌, Option, Some, None, Result, Ok, Err, refl, sym, ap, ◌∙◌, subst}
+use Rattle.std.proofs.Common.{◌≡◌, ℕ, List, [], ◌∷◌, ◌++◌, Result, Ok, Err, refl, subst}
 use Rattle.std.specs.Prelude.{IfOk, MatchResult}
 use Rattle.lethe_base.specs.declared.memory.NoMemory.{NoMemory}
 use Rattle.lethe_base.specs.declared.refused.Refused.{Refused}

@@ -18,5 +18,6 @@ mod words;
 
 pub use laws::one_scan;
 pub use reason::Reason;
+pub use reply::{Line, Reply};
 pub use top::{Ended, Told, run, run_told};
 pub use words::are_words;

@@ -5,7 +5,7 @@ use lethe_engine::{Stat, Ticked};
 
 /// What one line is answered.
 #[derive(Debug, Drop)]
-pub(crate) enum Reply {
+pub enum Reply {
     /// A change is done, at this place of the history.
     Done {
         place: u64,
@@ -84,7 +84,7 @@ pub(crate) enum Reply {
 
 /// A line that is printed.
 #[derive(Debug, Drop)]
-pub(crate) enum Line {
+pub enum Line {
     /// A line of the script is answered, to its caller.
     Answer { caller: u64, reply: Reply },
 }

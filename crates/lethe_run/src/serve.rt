@@ -68,7 +68,14 @@ pub(crate) fn serve_phase<D: Disk>(
     let mut whole = true;
     let mut index = 0usize;
     for orders in own {
-        if !serve_caller(engine, alloc, port, &mut slots.of[index], orders, &mut lines) {
+        if !serve_caller(
+            engine,
+            alloc,
+            port,
+            &mut slots.of[index],
+            orders,
+            &mut lines,
+        ) {
             whole = false;
         }
         index += 1;

@@ -82,6 +82,7 @@ line_called n line found e = by (list_all is_allowed line) e
     from_number : (read : Result (Option Item) Why) → numbered n read ≡ Ok (Some found) → read ≡ Ok (Some found)
     from_number (Ok one) e = cc
     from_number (Err why) e = absurd cc
+
     by : (b : Bool) → numbered n (cond b (fields_say n (fields line)) (Err Byte)) ≡ Ok (Some found) → IsCalled found
     by true e = fields_called n (fields line) found (from_number (fields_say n (fields line)) e)
     by false e = absurd cc

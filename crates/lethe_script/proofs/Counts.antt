@@ -43,5 +43,12 @@ script_few is_long bytes phases e =
     let (items, is, phased) = bind_ok (items_from is_long 1 none_held_by_all (lines (take 16777216 bytes))) (λ items. Ok (phases_of items)) phases e in
     let count : length (filter_map order_in items) ≡ sum_by length phases =
     ap length (sym (orders_flat items)) ∙ length-flat_map (λ (orders : List Order). orders) (phases_of items) ∙ ap (sum_by length) (ok_is _ _ phased) in
-    omega (arith, count, orders_few items, items_few is_long 1 none_held_by_all (lines (take 16777216 bytes)) items is, length-slice_split (λ byte. eqb byte 10) (take 16777216 bytes),
-      count_by-le-length (λ byte. eqb byte 10) (take 16777216 bytes), length-take 16777216 bytes)
+    omega (
+      arith,
+      count,
+      orders_few items,
+      items_few is_long 1 none_held_by_all (lines (take 16777216 bytes)) items is,
+      length-slice_split (λ byte. eqb byte 10) (take 16777216 bytes),
+      count_by-le-length (λ byte. eqb byte 10) (take 16777216 bytes),
+      length-take 16777216 bytes,
+    )

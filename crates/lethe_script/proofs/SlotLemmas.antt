@@ -44,13 +44,13 @@ pub along_order : (order : Order) → IsOfCaller order → (held : HeldByAll) �
     → held_through (orders_by caller (order ∷ orders)) (held_by caller held) ≡ held_through (orders_by caller orders) (held_by caller (set held (order.caller - 1) own))
 along_order order is_of held eight own behind orders caller some = elim (eqb_tells order.caller caller) [
   | inl own_one ↦
-    let same = own_one.1 in
-    let mine : held_by caller held ≡ held_by order.caller held = ap (λ k. held_by k held) (sym same) in
-    let next : held_by caller (set held (order.caller - 1) own) ≡ own = ap (λ k. held_by k (set held (order.caller - 1) own)) (sym same) ∙ own_behind order is_of held eight own in
-    rw (own_one.0, mine, behind, next) refl
+      let same = own_one.1 in
+      let mine : held_by caller held ≡ held_by order.caller held = ap (λ k. held_by k held) (sym same) in
+      let next : held_by caller (set held (order.caller - 1) own) ≡ own = ap (λ k. held_by k (set held (order.caller - 1) own)) (sym same) ∙ own_behind order is_of held eight own in
+      rw (own_one.0, mine, behind, next) refl
   | inr other ↦
-    let left = other_behind order is_of held eight own caller some (λ e. other.1 (sym e)) in
-    rw (other.0, left) refl
+      let left = other_behind order is_of held eight own caller some (λ e. other.1 (sym e)) in
+      rw (other.0, left) refl
 ]
 
 -- A script's lines
@@ -69,9 +69,10 @@ module _ (found : Option Item) (n : ℕ) (line : Bytes) (is : item_of n line ≡
       by (Some item.PhaseEnd) is e = let same : held ≡ behind = cc in (ap length (sym same) ∙ eight, λ items caller some. ap (λ h. held_through (orders_by caller (filter_map order_in items)) (held_by caller h)) same)
       by (Some (item.Order order)) is e =
           let (own, owned, same) = from_map (λ own. set held (order.caller - 1) own) (held_behind order.act (held_by order.caller held)) behind (from_ok_or (all_held_behind order held) _ behind e) in
-          let is_of : IsOfCaller order = line_called n line (item.Order order) is in
-          (ap length (sym same) ∙ length-set held (order.caller - 1) own ∙ eight,
-            λ items caller some. along_order order is_of held eight own owned (filter_map order_in items) caller some ∙ ap (λ h. held_through (orders_by caller (filter_map order_in items)) (held_by caller h)) same)
+          let is_of : IsOfCaller order = line_called n line (item.Order order) is in (
+            ap length (sym same) ∙ length-set held (order.caller - 1) own ∙ eight,
+            λ items caller some. along_order order is_of held eight own owned (filter_map order_in items) caller some ∙ ap (λ h. held_through (orders_by caller (filter_map order_in items)) (held_by caller h)) same,
+          )
 
   -- nobody has the number 0
   nobodys : (items : List Item) → orders_by 0 (filter_map order_in (cons_option found items)) ≡ orders_by 0 (filter_map order_in items)
@@ -130,8 +131,8 @@ script_slotted is_long bytes phases e caller =
     by caller items is = elim (cases_lt 0 caller) [
       | inl some ↦ subst (λ held. IsSome (held_through (orders_by caller (filter_map order_in items)) held)) (none_by caller) (slotted_from is_long 1 none_held_by_all (lines (take 16777216 bytes)) items is refl caller some)
       | inr none ↦
-        let zero : caller ≡ 0 = omega arith in
-        rw (zero, nobody_from is_long 1 none_held_by_all (lines (take 16777216 bytes)) items is) refl
+          let zero : caller ≡ 0 = omega arith in
+          rw (zero, nobody_from is_long 1 none_held_by_all (lines (take 16777216 bytes)) items is) refl
     ]
 
 -- Orders that find their slots
@@ -168,10 +169,11 @@ all_found (order ∷ orders) held eight called found =
     let is_of = All-head IsOfCaller order orders called in
     let own_first : orders_by order.caller (order ∷ orders) ≡ order ∷ orders_by order.caller orders = rw (eq-eqb order.caller order.caller refl) refl in
     let step = slotted_step (held_behind order.act (held_by order.caller held)) (orders_by order.caller orders)
-      (subst (λ own. IsSome (held_through own (held_by order.caller held))) own_first (found order.caller is_of.from_one)) in
+    (subst (λ own. IsSome (held_through own (held_by order.caller held))) own_first (found order.caller is_of.from_one)) in
     let next = set held (order.caller - 1) step.0 in
     let here : all_held_behind order held ≡ Some next = ap (option_map (λ own. set held (order.caller - 1) own)) step.1 in
     let on : all_held_through (order ∷ orders) held ≡ all_held_through orders next = ap (option_and_then (λ behind. all_held_through orders behind)) here in
-    let (behind, through) = all_found orders next (length-set held (order.caller - 1) step.0 ∙ eight) (All-tail IsOfCaller order orders called)
-      (λ caller one. subst IsSome (along_order order is_of held eight step.0 step.1 orders caller one) (found caller one)) in
+    let kept : length next ≡ 8 = length-set held (order.caller - 1) step.0 ∙ eight in
+    let (behind, through) = all_found orders next kept (All-tail IsOfCaller order orders called)
+    (λ caller one. subst IsSome (along_order order is_of held eight step.0 step.1 orders caller one) (found caller one)) in
     (behind, on ∙ through)

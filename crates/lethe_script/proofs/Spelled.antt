@@ -226,6 +226,7 @@ fields_again n caller act some most w =
     and_false : (b : Bool) → (b && false) ≡ false
     and_false true = refl
     and_false false = refl
+
     by_length : (byte : ℕ) → bytes_eq (byte ∷ []) (codes "phase") ≡ false
     by_length byte = and_false _
 

@@ -132,8 +132,8 @@ phases_lines n held (orders ∷ next ∷ more) behind some w numbered through =
     orders_lines n held orders (phase_line ++ script_text (next ∷ more)) mid (All-head (All IsWritable) orders (next ∷ more) w) numbered.0 is
     ∙ ap (λ r. r >>= λ items. Ok (map item.Order orders ++ items))
     (phase_end_line (n + length orders) mid (script_text (next ∷ more))
-      ∙ ap (λ r. r >>= λ items. Ok (item.PhaseEnd ∷ items))
-      (phases_lines (n + length orders + 1) mid (next ∷ more) behind (omega arith) (All-tail (All IsWritable) orders (next ∷ more) w) numbered.1 after))
+    ∙ ap (λ r. r >>= λ items. Ok (item.PhaseEnd ∷ items))
+    (phases_lines (n + length orders + 1) mid (next ∷ more) behind (omega arith) (All-tail (All IsWritable) orders (next ∷ more) w) numbered.1 after))
 
 -- their phases are these
 phases_again : (phases : List (List Order)) → 0 < length phases → phases_of (items_in phases) ≡ phases

@@ -15,8 +15,10 @@ all_taken order callers at found next b place is behind = by b behind
   where
     same : order.caller - 1 ≡ at
     same = omega arith
+
     put : set (slots_in callers) at next.slots ≡ slots_in (set callers at next)
     put = sym (map-set (λ held. held.slots) callers at next)
+
     by : (b : Bool) → held_behind order.act found.slots ≡ cond b (Some next.slots) None → all_held_behind order (slots_in callers) ≡ cond b (Some (slots_in (set callers at next))) None
     by true behind = rw (same, is, behind) (ap Some put)
     by false behind = rw (same, is, behind) refl

@@ -106,7 +106,7 @@ struct Reading {
     /// The phases that have ended.
     ended: Vec<List<Order>>,
     /// The orders of the one that hasn't.
-    open: Vec<Order>,
+    current: Vec<Order>,
     held: HeldByAll,
 }
 
@@ -114,25 +114,25 @@ impl Reading {
     /// Nothing was read: the first phase has no orders yet.
     fn new(alloc: Global) -> Reading
         ensures ended { result.ended.items ≡ [] }
-        ensures open { result.open.items ≡ [] }
+        ensures current { result.current.items ≡ [] }
         ensures held { result.held ≡ none_held_by_all }
     {
         Reading {
             ended: Vec::new(alloc),
-            open: Vec::new(alloc),
+            current: Vec::new(alloc),
             held: HeldByAll::none(),
         }
     }
 
     /// Reads a line, and keeps what it says. It is bad where the act of its order doesn't find its slot as it needs it.
     fn push_line(&mut self, alloc: Global, line: u64, text: &[u8]) -> Result<(), ScriptRefused>
-        ensures { GivesScript (λ _. ((self.new.ended.items, self.new.open.items), self.new.held)) result
-            (with_item self.old.ended.items self.old.open.items self.old.held (item_of line text.now)) }
+        ensures { GivesScript (λ _. ((self.new.ended.items, self.new.current.items), self.new.held)) result
+            (with_item self.old.ended.items self.old.current.items self.old.held (item_of line text.now)) }
     {
         match read_item(alloc, line, text)? {
             None => {}
             Some(Item::PhaseEnd) => {
-                let orders = mem::replace(&mut self.open, Vec::new(alloc));
+                let orders = mem::replace(&mut self.current, Vec::new(alloc));
                 self.ended.push(List::of(orders))?;
             }
             Some(Item::Order(order)) => {
@@ -142,7 +142,7 @@ impl Reading {
                         why: Why::Slot,
                     }));
                 }
-                self.open.push(order)?;
+                self.current.push(order)?;
             }
         }
         Ok(())
@@ -150,14 +150,14 @@ impl Reading {
 
     /// All phases, the last of which ends here.
     fn into_phases(self) -> Result<Vec<List<Order>>, AllocError>
-        ensures { IfOk result (λ phases. phases.items ≡ self.ended.items ++ self.open.items ∷ []) }
+        ensures { IfOk result (λ phases. phases.items ≡ self.ended.items ++ self.current.items ∷ []) }
     {
         let Reading {
             mut ended,
-            open,
+            current,
             ..
         } = self;
-        ended.push(List::of(open))?;
+        ended.push(List::of(current))?;
         Ok(ended)
     }
 }

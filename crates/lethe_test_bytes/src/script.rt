@@ -6,10 +6,13 @@ use std::alloc::Global;
 use std::process::Abort;
 use std::str;
 
-/// The orders with the numbers of their lines, each ended by `;`.
+/// The orders with the numbers of their lines, each ended by `;`, and a `|` between two phases.
 fn shown(alloc: Global, rt: &impl Abort, script: &Script) -> String {
     let mut text = String::new(alloc);
-    for phase in script.phases.items() {
+    for (index, phase) in script.phases.items().iter().enumerate() {
+        if index > 0 {
+            write!(text, "|").expect(rt, "memory");
+        }
         for order in phase.items() {
             push_order(alloc, rt, &mut text, order);
         }
@@ -19,7 +22,7 @@ fn shown(alloc: Global, rt: &impl Abort, script: &Script) -> String {
 
 fn push_order(alloc: Global, rt: &impl Abort, text: &mut String, order: &Order) {
     let act = act_shown(alloc, rt, &order.act);
-    write!(text, "{}:{} {act};", order.line, order.caller).expect(rt, "memory");
+    write!(text, "{}:{} {act};", order.line, order.caller.get()).expect(rt, "memory");
 }
 
 fn text_of<'a>(rt: &impl Abort, bytes: &'a [u8]) -> &'a str {
@@ -115,6 +118,33 @@ const READ: &[(&[u8], &[u8])] = &[
         b"1 pin 0\n1 pget 0 a\n1 pscan 0 a b\n1 pin 9\n1 unpin 0\n1 pin 0\n1 pget 9 a",
         b"1:1 pin 0;2:1 pget 0 a;3:1 pscan 0 a b;4:1 pin 9;5:1 unpin 0;6:1 pin 0;7:1 pget 9 a;",
     ),
+    (
+        b"1 stat\n2 stat\n3 stat\n4 stat\n5 stat\n6 stat\n7 stat\n8 stat",
+        b"1:1 stat;2:2 stat;3:3 stat;4:4 stat;5:5 stat;6:6 stat;7:7 stat;8:8 stat;",
+    ),
+    // There is one phase more than lines `phase`, and a phase may be empty.
+    (b"phase", b"|"),
+    (b"phase\n", b"|"),
+    (b"  phase \r\n\nphase\n1 get a", b"||4:1 get a;"),
+    (
+        b"2 get a\n1 get b\nphase\n# note\n2 del a\nphase\n",
+        b"1:2 get a;2:1 get b;|5:2 del a;|",
+    ),
+    (
+        b"1 get a\nphase\n8 put b 5 y\nphase\n1 get b",
+        b"1:1 get a;|3:8 put b 5 y;|5:1 get b;",
+    ),
+    (b"1 get phase\n#phase\nphase", b"1:1 get phase;|"),
+    // A slot stays held over phases.
+    (
+        b"1 pin 0\nphase\n1 pget 0 a\nphase\nphase\n1 unpin 0\n1 pin 0",
+        b"1:1 pin 0;|3:1 pget 0 a;||6:1 unpin 0;7:1 pin 0;",
+    ),
+    // Each caller has ten slots of its own.
+    (
+        b"1 pin 0\n2 pin 0\n8 pin 0\n1 unpin 0\n2 pget 0 a\nphase\n8 pscan 0 a b\n1 pin 0",
+        b"1:1 pin 0;2:2 pin 0;3:8 pin 0;4:1 unpin 0;5:2 pget 0 a;|7:8 pscan 0 a b;8:1 pin 0;",
+    ),
 ];
 
 fn check_shown(alloc: Global, rt: &impl Abort, bytes: &[u8], text: &[u8]) {
@@ -139,12 +169,28 @@ const BAD: &[(&[u8], u64, &[u8])] = &[
     (b"1 get a\r", 1, b"byte"),
     (b"1 get a\r\r\n", 1, b"byte"),
     (b"1 ge\rt a\n", 1, b"byte"),
-    (b"1 get a\n2 get \xff\n", 2, b"byte"),
-    (b"2 get a\n", 1, b"caller"),
-    (b"1 get a\n2 get a\n", 2, b"caller"),
+    (b"1 get a\n9 get \xff\n", 2, b"byte"),
+    (b"9 get a\n", 1, b"caller"),
+    (b"0 get a\n", 1, b"caller"),
+    (b"10 get a\n", 1, b"caller"),
+    (b"-1 get a\n", 1, b"caller"),
+    (b"1 get a\n9 get a\n", 2, b"caller"),
     (b"\n# 1 frob\n  \n1 get a\n01 get a\n", 5, b"caller"),
     (b"get a\n", 1, b"caller"),
-    (b"phase\n", 1, b"caller"),
+    (b"01 get a\n", 1, b"caller"),
+    (b"phases\n", 1, b"caller"),
+    (b"phas\n", 1, b"caller"),
+    (b"PHASE\n", 1, b"caller"),
+    (b"=7068617365\n", 1, b"caller"),
+    (b"phase x\n", 1, b"count"),
+    (b"phase phase\n", 1, b"count"),
+    (b"phase 1 get a\n", 1, b"count"),
+    (b"phase # note\n", 1, b"count"),
+    (b"1 phase\n", 1, b"command"),
+    (b"phase\xff\n", 1, b"byte"),
+    // Lines `phase` are counted.
+    (b"phase\nphase\n8 frob\n", 3, b"command"),
+    (b"1 get a\nphase\nphase x\n9 get a\n", 3, b"count"),
     (b"9 frob\n", 1, b"caller"),
     (b"1 frob\n", 1, b"command"),
     (b"1\n", 1, b"command"),
@@ -175,6 +221,17 @@ const BAD: &[(&[u8], u64, &[u8])] = &[
     (b"1 pin 0\n1 pin 0\n", 2, b"slot"),
     (b"1 pin 0\n1 pscan 1 a b\n", 2, b"slot"),
     (b"1 pin 0\n1 unpin 0\n1 pget 0 a\n", 3, b"slot"),
+    // By the lines of its own caller, in whichever phase.
+    (b"1 pin 0\n2 pget 0 a\n", 2, b"slot"),
+    (b"1 pin 0\n8 pin 0\n8 pin 0\n", 3, b"slot"),
+    (b"8 pin 0\n7 pin 0\n8 unpin 0\n8 unpin 0\n", 4, b"slot"),
+    (b"1 pin 0\nphase\n1 pin 0\n", 3, b"slot"),
+    (b"1 pin 0\nphase\n2 unpin 0\n", 3, b"slot"),
+    (
+        b"1 pin 0\nphase\n1 unpin 0\nphase\n1 pget 0 a\n",
+        5,
+        b"slot",
+    ),
     (b"1 erase 20 10\n", 1, b"range"),
     (b"1 erase 5 5\n", 1, b"range"),
     (b"1 erase 18446744073709551615 0\n", 1, b"range"),
@@ -184,7 +241,7 @@ const BAD: &[(&[u8], u64, &[u8])] = &[
     (b"1 tick x\n", 1, b"number"),
     (b"1 PUT a 5 x\n", 1, b"command"),
     (b"1 # get a\n", 1, b"command"),
-    (b"1 frob\n2 get a\n", 1, b"command"),
+    (b"1 frob\n9 get a\n", 1, b"command"),
     (b"1 get\n", 1, b"count"),
     (b"1 get =a b\n", 1, b"count"),
     (b"1 put a 5\n", 1, b"count"),
@@ -244,7 +301,7 @@ const LIMITS: &[(&[u8], u8, usize, &[u8], u64, &[u8])] = &[
     (b"1 put a 5 =", b'7', 8194, b"", 1, b"value"),
     (b"1 put a 1", b'0', 19, b" x\n", 0, b""),
     (b"1 put a 1", b'0', 20, b" x\n", 1, b"number"),
-    (b"#", b'#', 65_536, b"\n1 get a\n2 get a", 3, b"caller"),
+    (b"#", b'#', 65_536, b"\n1 get a\n9 get a", 3, b"caller"),
 ];
 
 fn filled(
@@ -278,6 +335,27 @@ fn limits_are_met_to_the_byte(rt: HostRuntime) {
             "line {line} after {count}"
         );
     }
+}
+
+/// The number of phases of a script that has no orders.
+fn phases_of(alloc: Global, rt: &impl Abort, bytes: &[u8]) -> usize {
+    let script = read_script(alloc, bytes).expect(rt, "a script");
+    script.phases.items().len()
+}
+
+fn phase_lines(alloc: Global, rt: &impl Abort, count: usize) -> Vec<u8> {
+    b"phase\n"
+        .as_slice()
+        .repeat(alloc, count)
+        .expect(rt, "memory")
+}
+
+#[test]
+fn phases_may_fill_a_script(rt: HostRuntime) {
+    let most = phase_lines(rt.alloc(), &rt, 2_796_202);
+    assert!(rt; phases_of(rt.alloc(), &rt, &most) == 2_796_203);
+    let more = phase_lines(rt.alloc(), &rt, 2_796_203);
+    assert!(rt; is_refused(rt.alloc(), &more, 2_796_203, b"size"));
 }
 
 fn is_put(order: &Order, wanted_key: &[u8], wanted_value: &[u8]) -> bool {

@@ -1,5 +1,5 @@
-use Rattle.std.proofs.Common.{rules, ◌≡◌, ◌≤◌, ◌<◌, ◌+◌, ◌++◌, ◌∷◌, suc, List, [], get_or, length, map, true, cond, refl, sym, ap, ◌∙◌, subst, arith}
-use Rattle.std.specs.Prelude.{All, is_ok, replicate, slice_set, vec_capacity, vec_len}
+use Rattle.std.proofs.Common.{rules, ◌≡◌, ◌+◌, ◌++◌, ◌∷◌, suc, [], get_or, length, map, true, cond, sym, ap, ◌∙◌, subst, arith}
+use Rattle.std.specs.Prelude.{All, is_ok, replicate, slice_set, vec_len}
 use Rattle.std.proofs.Math.ListN.{get_or-map}
 use Rattle.std.proofs.lemmas.List.{length-map, map-append, map-id, map-set, replicate_more}
 use Rattle.std.proofs.lemmas.List.Elements.{All-append, All-cons, All-nil}

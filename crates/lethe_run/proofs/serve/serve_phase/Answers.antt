@@ -1,7 +1,6 @@
-use Rattle.std.proofs.Common.{rules, ◌≡◌, ◌≤◌, ◌<◌, ◌+◌, inl, inr, ℕ, suc, List, [], ◌∷◌, ◌++◌, length, map, true, false, None, Some, refl, sym, ap, ◌∙◌, subst, arith, append-nil}
+use Rattle.std.proofs.Common.{rules, ◌≡◌, ◌<◌, ◌+◌, inl, inr, ℕ, suc, [], ◌∷◌, ◌++◌, length, map, true, None, Some, refl, sym, ap, ◌∙◌, subst, arith, append-nil}
 use mathlib.Core.Bool.{false≢true}
 use Rattle.std.specs.Prelude.{IsSome, replicate, slice_set}
-use Rattle.std.specs.List.{sum_by}
 use Rattle.std.proofs.lemmas.Bool.{cases_lt}
 use Rattle.std.proofs.lemmas.List.{length-map, length_push, map-append, map-id, map-set}
 use Rattle.std.proofs.lemmas.List.Sums.{sum_by_push}
@@ -9,7 +8,7 @@ use Rattle.std.proofs.lemmas.Iterator.Consumers.{YieldsList-end}
 use Rattle.std.proofs.lemmas.Iterator.Adapters.{YieldsList-from_vec}
 use Rattle.lethe_core.specs.View.{view_of}
 use Rattle.lethe_script.specs.Slots.{held_through, orders_by}
-use Rattle.lethe_run.specs.Callers.{IsPhaseOfAll, each_own}
+use Rattle.lethe_run.specs.Callers.{IsPhaseOfAll}
 use Rattle.lethe_run.specs.Holding.{AreTen, held_by, held_for, held_in}
 use Rattle.lethe_run.specs.Rows.{IsStretch}
 use Rattle.lethe_run.proofs.Callers.{all_in, all_of_all, fronts_of_all, held_other, held_same, next_fronts, none_fronts, none_of_nobody, none_of_strange, own_fit, own_fit_all, own_next, part_is_own, phase_more, phase_none, seen_at, ten_more}
@@ -203,7 +202,7 @@ loop-orders-preserved g c =
                 let is : caller ≡ suc index = omega (arith, low, not) in
                 let held : held_for (suc index) was ≡ held_in c.index_mut.result.now.held.items = sym (c.loop-orders.invariant.others (suc index) (omega arith)) ∙ ap held_in (sym here) in
                 subst (λ caller. held_through (orders_by caller orders) (held_for caller was) ≡ Some (held_for caller (held_by (slice_set slots index c.serve_caller.new.slots)))) (sym is)
-                    (ap (λ l. held_through l (held_for (suc index) was)) (sym now_is) ∙ ap (held_through now.items) held ∙ c.serve_caller.ensures.slotted both.0 ∙ ap Some (sym (behind (suc index) ∙ held_same between index next within)))
+                (ap (λ l. held_through l (held_for (suc index) was)) (sym now_is) ∙ ap (held_through now.items) held ∙ c.serve_caller.ensures.slotted both.0 ∙ ap Some (sym (behind (suc index) ∙ held_same between index next within)))
           ];
       others = λ caller above. ap (held_for caller) set ∙ held_other between index next caller (λ same. omega (arith, same, above)) ∙ c.loop-orders.invariant.others caller (omega (arith, above));
       room = let a = c.loop-orders.invariant.room in let b = c.serve_caller.ensures.capacity in omega (arith, a, b);
@@ -223,8 +222,7 @@ returns-clause-served g c =
     let many = sym (length-map own (λ list. list.items)) ∙ ap length lists in
     let size = ap length all in
     let place = c.loop-orders.invariant.index in
-    let parts = so_far.2 in
-    (
+    let parts = so_far.2 in (
       all_in so_far.0,
       fronts_of_all orders so_far.0 callers (omega (arith, many, size, place, parts)) so_far.1,
       (λ whole. all_of_all orders so_far.0 callers (so_far.3 whole ∙ ap (map (λ list. list.items)) (sym all) ∙ lists)),

@@ -1,5 +1,5 @@
 use Rattle.std.proofs.Common.{◌≡◌, ◌≤◌, ◌<◌, ◌+◌, true, List, Some, length, map}
-use Rattle.std.specs.Prelude.{◌-◌, ℕ, suc, sum_by, vec_len, vec_capacity}
+use Rattle.std.specs.Prelude.{ℕ, sum_by, vec_len, vec_capacity}
 use Rattle.lethe_core.specs.Running.{IsSound}
 use Rattle.lethe_core.specs.View.{view_of}
 use Rattle.lethe_script.specs.Slots.{held_through, orders_by}

@@ -8,7 +8,7 @@ use Rattle.lethe_script.proofs.reading.read_phases.Given as goal
 -- the phases so far and those of what is left, behind the slots that are held, are those of all
 abbrev pub invariant-loop-text : goal.invariant-loop-text
 invariant-loop-text l = record {
-  told : with_front l.reading.ended.items l.reading.open.items (items_from l.is_long l.line l.reading.held (lines l.rest)) ≡ phases_read (items_from l.is_long 1 none_held_by_all (lines l.bytes));
+  told : with_front l.reading.ended.items l.reading.current.items (items_from l.is_long l.line l.reading.held (lines l.rest)) ≡ phases_read (items_from l.is_long 1 none_held_by_all (lines l.bytes));
   few : l.line + length l.rest ≤ 1 + length l.bytes;
 }
 
