@@ -9,6 +9,9 @@ use lethe_wire::{MemSink, MemSource};
 use std::alloc::Global;
 use std::process::Abort;
 
+/// A put of each of two callers.
+const BOTH: &str = "2 put b 1 v\n1 put a 1 v\n";
+
 /// The first put of the script.
 const FIRST: &str = "1 put a 1 v\n";
 
@@ -82,9 +85,11 @@ fn counts_of(alloc: Global, rt: &impl Abort, script: &str, text: &str) -> Counts
 #[test]
 fn a_phase_is_printed_behind_its_last_device_call(rt: HostRuntime) {
     let first = counts_of(rt.alloc(), &rt, FIRST, "1 ok 1\n");
+    let both = counts_of(rt.alloc(), &rt, BOTH, "1 ok 1\n2 ok 2\n");
     let all = counts_of(rt.alloc(), &rt, SCRIPT, TEXT);
     assert!(rt; first.first_write == Some(first.end));
+    assert!(rt; both.first_write == Some(both.end));
     assert!(rt; all.first_write == Some(all.end));
     // What follows the first put takes calls, so a line written before that would have found fewer.
-    assert!(rt; first.end < all.end);
+    assert!(rt; first.end < both.end && first.end < all.end);
 }
