@@ -11,5 +11,5 @@ pub struct Entry {
 }
 
 /// What is noted beside the changes: nothing yet.
-#[derive(Debug, Drop)]
+#[derive(Drop)]
 pub enum Mark {}
