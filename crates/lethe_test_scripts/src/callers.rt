@@ -63,7 +63,11 @@ fn each_pin_of_a_phase_has_a_number_of_its_own(rt: HostRuntime) {
     let disk = empty_disk(rt.alloc(), &rt);
     let printed = run(rt.alloc(), &rt, &SMALL_WORDS, script, disk).printed;
     assert!(rt; printed.status == 0);
-    assert!(rt; texts.iter().any(|text| printed.text.as_slice() == text.as_bytes()));
+    assert!(rt;
+        texts
+            .iter()
+            .any(|text| printed.text.as_slice() == text.as_bytes())
+    );
 }
 
 /// How many device calls it takes to open the store of an empty disk.
