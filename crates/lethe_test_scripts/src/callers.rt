@@ -8,11 +8,15 @@ use std::alloc::Global;
 use std::process::Abort;
 
 /// Scripts, and what is printed of them, where H stands for the digest of the manifest that is there at the end.
-const ROWS: [(&str, &str); 7] = [
+const ROWS: [(&str, &str); 8] = [
     // A phase ends before the next begins, and its lines are printed caller by caller.
     (
         "1 put a 5 x\nphase\n2 get a\n1 get a\n",
         "1 ok 1\n1 at 1 val 5 x\n2 at 1 val 5 x\n",
+    ),
+    (
+        "2 put a 5 x\nphase\n2 get a\n1 get a\n1 del a\n",
+        "2 ok 1\n1 at 1 val 5 x\n1 ok 2\n2 at 2 none\n",
     ),
     // A slot is held over phases, and by its caller alone.
     (
