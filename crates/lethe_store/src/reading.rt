@@ -54,7 +54,7 @@ impl<D: Disk> Store<D, Changes> {
         let answer = held.value.engine.get(alloc, &mut session.port, key);
         self.put_back(session, held);
         match answer {
-            Ok(answer) => Ok(Read { at, answer }),
+            Ok(found) => Ok(Read { at, answer: found }),
             Err(why) => Err(why),
         }
     }
@@ -88,7 +88,7 @@ impl<D: Disk> Store<D, Changes> {
         let answer = held.value.engine.scan(alloc, &mut session.port, lo, hi);
         self.put_back(session, held);
         match answer {
-            Ok(answer) => Ok(Read { at, answer }),
+            Ok(pairs) => Ok(Read { at, answer: pairs }),
             Err(why) => Err(why),
         }
     }

@@ -25,9 +25,9 @@ returns-in-Ok-clause-answer g c =
     let w = c.take-held.new.session.seat.me.0 in
     let x = c.put_back.new.session.seat.me.0 in
     let desk = desk_of c.take-held.result.value.engine in
-    read_at g.D.Disk.tells g.D.Disk.ports_fail (λ o. desk_of o.engine) x desk (Scan c.args.lo.now c.args.hi.now) (listed c.in-Ok.answer.items)
+    read_at g.D.Disk.tells g.D.Disk.ports_fail (λ o. desk_of o.engine) x desk (Scan c.args.lo.now c.args.hi.now) (listed c.in-Ok.pairs.items)
     (leads_passed g.D.Disk.tells g.D.Disk.ports_fail (λ o. desk_of o.engine) w x desk c.take-held.ensures.since (ap (λ m. m.0) c.put_back.ensures.passed ∙ ap (λ m. passed m.0) c.learn-at.ensures.same))
-    (λ told config h stands. ok_of (λ held. answer (after h) (Scan c.args.lo.now c.args.hi.now) ≡ listed held.items) c.scan-answer.result (c.scan-answer.ensures.answer told config h stands) c.in-Ok.answer c.in-Ok.is)
+    (λ told config h stands. ok_of (λ held. answer (after h) (Scan c.args.lo.now c.args.hi.now) ≡ listed held.items) c.scan-answer.result (c.scan-answer.ensures.answer told config h stands) c.in-Ok.pairs c.in-Ok.is)
 
 pub returns-in-Err-clause-ready : goal.returns-in-Err-clause-ready
 returns-in-Err-clause-ready g c =
