@@ -8,9 +8,11 @@ mod common;
 mod faults;
 #[cfg(test)]
 mod fifty;
+mod many;
 #[cfg(test)]
 mod rows;
 #[cfg(test)]
 mod scans;
 
 pub use both::{Both, Put, put_both};
+pub use many::{put_each, put_two_hundred};

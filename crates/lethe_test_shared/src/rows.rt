@@ -5,6 +5,7 @@ ghost use Rattle.lethe_store.specs.Since.{all_counted};
 ghost use Rattle.lethe_store.specs.Sessions.{IsReady};
 
 use crate::common::{Caller, Shared, key_of, opened, shared, value_of};
+use crate::many::put_two_hundred;
 use lethe_disk::Disk;
 use lethe_memdisk::MemDisk;
 use std::alloc::Global;
@@ -129,4 +130,14 @@ fn a_snapshot_is_read_through_the_port_of_a_session(rt: HostRuntime) {
     has_at(alloc, &rt, &store, &mut one, ("a", "later"), 1);
     let mut engine = store.finish(&rt, one);
     engine.release(snapshot);
+}
+
+#[test]
+fn two_hundred_sessions_put_once_each(rt: HostRuntime) {
+    let alloc = rt.alloc();
+    let engine = opened(alloc, &rt, empty(alloc, &rt));
+    let Ok((engine, done)) = put_two_hundred(&rt, alloc, engine) else {
+        panic!(rt; "memory")
+    };
+    assert!(rt; done == 200 && engine.count() == 200, "{done}");
 }
