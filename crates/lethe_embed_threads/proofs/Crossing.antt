@@ -17,7 +17,6 @@ use Rattle.lethe_store.specs.contracts.session.Session as Session
 use Rattle.lethe_store.specs.contracts.store.Store as Store
 use Rattle.lethe_store.proofs.Crossing.{session_send, store_sync}
 use Rattle.lethe_embed_threads.specs.contracts.Office as Office
-use Rattle.lethe_embed_threads.specs.contracts.Town as Town
 
 page_send : IsSend DirPage.the_row
 page_send = search (maps.crosses, crosses, sendable) depth 60

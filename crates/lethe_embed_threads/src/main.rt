@@ -145,8 +145,18 @@ fn four_offices<R: Threads + Wait + Sync>(
     let west = new_office(rt, alloc, store, first, Town::West)?;
     let ((north, east), (south, west)) = join(
         rt,
-        move || two_offices(rt, alloc, store, north, east),
-        move || two_offices(rt, alloc, store, south, west),
+        move || -> (Office, Office)
+            requires of { (north.session.seat.table_id ≡ store.now.turn.table.shared.table_id) × (east.session.seat.table_id ≡ store.now.turn.table.shared.table_id) }
+            requires ready { IsReady all_counted (λ o. desk_of o.engine) north.session.seat.me × IsReady all_counted (λ o. desk_of o.engine) east.session.seat.me }
+            ensures of { (result.0.session.seat.table_id ≡ north.session.seat.table_id) × (result.1.session.seat.table_id ≡ east.session.seat.table_id) }
+            ensures ready { IsReady all_counted (λ o. desk_of o.engine) result.0.session.seat.me × IsReady all_counted (λ o. desk_of o.engine) result.1.session.seat.me }
+        { two_offices(rt, alloc, store, north, east) },
+        move || -> (Office, Office)
+            requires of { (south.session.seat.table_id ≡ store.now.turn.table.shared.table_id) × (west.session.seat.table_id ≡ store.now.turn.table.shared.table_id) }
+            requires ready { IsReady all_counted (λ o. desk_of o.engine) south.session.seat.me × IsReady all_counted (λ o. desk_of o.engine) west.session.seat.me }
+            ensures of { (result.0.session.seat.table_id ≡ south.session.seat.table_id) × (result.1.session.seat.table_id ≡ west.session.seat.table_id) }
+            ensures ready { IsReady all_counted (λ o. desk_of o.engine) result.0.session.seat.me × IsReady all_counted (λ o. desk_of o.engine) result.1.session.seat.me }
+        { two_offices(rt, alloc, store, south, west) },
     );
     Ok([
         close(store, first, north)?,
@@ -214,8 +224,14 @@ fn two_offices<R: Threads + Wait + Sync>(
 {
     join(
         rt,
-        move || work(rt, alloc, store, one),
-        move || work(rt, alloc, store, other),
+        move || -> Office
+            requires { (one.session.seat.table_id ≡ store.now.turn.table.shared.table_id) × IsReady all_counted (λ o. desk_of o.engine) one.session.seat.me }
+            ensures { (result.session.seat.table_id ≡ one.session.seat.table_id) × IsReady all_counted (λ o. desk_of o.engine) result.session.seat.me }
+        { work(rt, alloc, store, one) },
+        move || -> Office
+            requires { (other.session.seat.table_id ≡ store.now.turn.table.shared.table_id) × IsReady all_counted (λ o. desk_of o.engine) other.session.seat.me }
+            ensures { (result.session.seat.table_id ≡ other.session.seat.table_id) × IsReady all_counted (λ o. desk_of o.engine) result.session.seat.me }
+        { work(rt, alloc, store, other) },
     )
 }
 
