@@ -1,0 +1,316 @@
+//! How threads share a store: it opens the folder `offices`, four threads put and get records of their own, each in a session, and it prints how many changes each made.
+#![tactic(auto)]
+
+ghost use Rattle.std.specs.Prelude.{◌≡◌, ◌*◌, ◌<◌, ◌≤◌, IfOk};
+ghost use Rattle.lethe_store.specs.Desks.{desk_of};
+ghost use Rattle.lethe_store.specs.Sessions.{IsReady};
+ghost use Rattle.lethe_store.specs.Since.{all_counted};
+
+use lethe_base::{Config, Fields, Key, NoMemory, Refused, Value};
+use lethe_dirdisk::{DirDisk, DirRefused};
+use lethe_engine::Engine;
+use lethe_reasons::{
+    Message, damaged, folder_refused, no_memory, open_exhausted, open_fault, other_config,
+    refused_call,
+};
+use lethe_recover::OpenWhy;
+use lethe_store::{Changes, Session, Store};
+use std::alloc::Global;
+use std::process::ExitCode;
+use std::sync::Wait;
+use std::thread::{Threads, join};
+
+/// The folder of the store.
+const FOLDER: &str = "offices";
+
+/// How many records each office puts.
+const RECORDS: u64 = 25;
+
+/// The store, which all threads use by reference.
+type Shared = Store<DirDisk, Changes>;
+
+/// A caller of it, which one thread has.
+type Caller = Session<DirDisk, Changes>;
+
+/// Why the program ended early.
+#[derive(Drop)]
+enum Fault {
+    /// The folder isn't opened.
+    Folder(DirRefused),
+    /// The store in it isn't.
+    Store(OpenWhy),
+    /// A later call was refused; the error that is dropped there says why.
+    Call,
+}
+
+/// Where an office is.
+#[derive(Clone, Copy, Drop)]
+enum Town {
+    North,
+    East,
+    South,
+    West,
+}
+
+/// An office, with its session, and how many changes it made or why it ended early.
+#[derive(Drop)]
+struct Office {
+    town: Town,
+    session: Caller,
+    made: Result<u64, Refused>,
+}
+
+fn main(rt: HostRuntime) -> ExitCode {
+    let done = match shared(&rt, rt.alloc()) {
+        Ok(opened) => serve(&rt, rt.alloc(), opened),
+        Err(fault) => Err(fault),
+    };
+    match done {
+        Ok(()) => ExitCode::SUCCESS,
+        Err(fault) => {
+            if let Ok(why) = told(rt.alloc(), &fault) {
+                let _ = rt.eprintln(text(why.bytes()));
+            }
+            ExitCode::FAILURE
+        }
+    }
+}
+
+/// The store of the folder, shared, with its first session.
+fn shared(rt: &HostRuntime, alloc: Global) -> Result<(Shared, Caller), Fault>
+    ensures of { IfOk result (λ r. r.1.seat.table_id ≡ r.0.turn.table.shared.table_id) }
+    ensures ready { IfOk result (λ r. IsReady all_counted (λ o. desk_of o.engine) r.1.seat.me) }
+    ensures parts { IfOk result (λ r. 16 ≤ r.1.seat.me.0.parts) }
+{
+    let config = Config::new(Fields::default()).map_err(|_| Fault::Call)?;
+    let disk = DirDisk::open(rt, alloc, FOLDER).map_err(|why| Fault::Folder(why))?;
+    let engine = Engine::open(alloc, disk, &config).map_err(|refused| Fault::Store(refused.why))?;
+    match Store::open(alloc, engine) {
+        Ok(opened) => Ok(opened),
+        Err(_) => Err(Fault::Call),
+    }
+}
+
+/// Lets the offices work, ends the sharing, and prints how many changes each made.
+fn serve<R: Threads + Wait + Print + Sync>(
+    rt: &R,
+    alloc: Global,
+    opened: (Shared, Caller),
+) -> Result<(), Fault>
+    requires of { opened.1.seat.table_id ≡ opened.0.turn.table.shared.table_id }
+    requires ready { IsReady all_counted (λ o. desk_of o.engine) opened.1.seat.me }
+    requires parts { 16 ≤ opened.1.seat.me.0.parts }
+{
+    let (store, mut first) = opened;
+    let made = four_offices(rt, alloc, &store, &mut first);
+    // A shared store can't be dropped: one of its sessions ends it, also where a call was refused.
+    let _ = store.finish(rt, first);
+    let [north, east, south, west] = made?;
+    tell(rt, Town::North, north)?;
+    tell(rt, Town::East, east)?;
+    tell(rt, Town::South, south)?;
+    tell(rt, Town::West, west)
+}
+
+fn tell<R: Print>(rt: &R, town: Town, changes: u64) -> Result<(), Fault> {
+    let name = name_of(town);
+    println!(rt; "{name} made {changes} changes").map_err(|_| Fault::Call)
+}
+
+fn name_of(town: Town) -> &'static str {
+    match town {
+        Town::North => "north",
+        Town::East => "east",
+        Town::South => "south",
+        Town::West => "west",
+    }
+}
+
+/// Four threads, with a session each. They end before this does, and their sessions are joined to the first one.
+fn four_offices<R: Threads + Wait + Sync>(
+    rt: &R,
+    alloc: Global,
+    store: &Shared,
+    first: &mut Caller,
+) -> Result<[u64; 4], Fault>
+    requires of { first.old.seat.table_id ≡ store.now.turn.table.shared.table_id }
+    requires ready { IsReady all_counted (λ o. desk_of o.engine) first.old.seat.me }
+    requires parts { 16 ≤ first.old.seat.me.0.parts }
+    ensures of { first.new.seat.table_id ≡ first.old.seat.table_id }
+    ensures ready { IsReady all_counted (λ o. desk_of o.engine) first.new.seat.me }
+{
+    let north = new_office(rt, alloc, store, first, Town::North)?;
+    let east = new_office(rt, alloc, store, first, Town::East)?;
+    let south = new_office(rt, alloc, store, first, Town::South)?;
+    let west = new_office(rt, alloc, store, first, Town::West)?;
+    let ((north, east), (south, west)) = join(
+        rt,
+        move || -> (Office, Office)
+            requires of { (north.session.seat.table_id ≡ store.now.turn.table.shared.table_id) × (east.session.seat.table_id ≡ store.now.turn.table.shared.table_id) }
+            requires ready { IsReady all_counted (λ o. desk_of o.engine) north.session.seat.me × IsReady all_counted (λ o. desk_of o.engine) east.session.seat.me }
+            ensures of { (result.0.session.seat.table_id ≡ north.session.seat.table_id) × (result.1.session.seat.table_id ≡ east.session.seat.table_id) }
+            ensures ready { IsReady all_counted (λ o. desk_of o.engine) result.0.session.seat.me × IsReady all_counted (λ o. desk_of o.engine) result.1.session.seat.me }
+        { two_offices(rt, alloc, store, north, east) },
+        move || -> (Office, Office)
+            requires of { (south.session.seat.table_id ≡ store.now.turn.table.shared.table_id) × (west.session.seat.table_id ≡ store.now.turn.table.shared.table_id) }
+            requires ready { IsReady all_counted (λ o. desk_of o.engine) south.session.seat.me × IsReady all_counted (λ o. desk_of o.engine) west.session.seat.me }
+            ensures of { (result.0.session.seat.table_id ≡ south.session.seat.table_id) × (result.1.session.seat.table_id ≡ west.session.seat.table_id) }
+            ensures ready { IsReady all_counted (λ o. desk_of o.engine) result.0.session.seat.me × IsReady all_counted (λ o. desk_of o.engine) result.1.session.seat.me }
+        { two_offices(rt, alloc, store, south, west) },
+    );
+    Ok([
+        close(store, first, north)?,
+        close(store, first, east)?,
+        close(store, first, south)?,
+        close(store, first, west)?,
+    ])
+}
+
+/// An office with a session that is split from the first one.
+fn new_office<R: Wait>(
+    rt: &R,
+    alloc: Global,
+    store: &Shared,
+    first: &mut Caller,
+    town: Town,
+) -> Result<Office, Fault>
+    requires of { first.old.seat.table_id ≡ store.now.turn.table.shared.table_id }
+    requires ready { IsReady all_counted (λ o. desk_of o.engine) first.old.seat.me }
+    requires parts { 1 < first.old.seat.me.0.parts }
+    ensures of { first.new.seat.table_id ≡ first.old.seat.table_id }
+    ensures ready { IsReady all_counted (λ o. desk_of o.engine) first.new.seat.me }
+    ensures parts { first.old.seat.me.0.parts ≤ 2 * first.new.seat.me.0.parts }
+    ensures office_of { IfOk result (λ office. office.session.seat.table_id ≡ first.old.seat.table_id) }
+    ensures office_ready { IfOk result (λ office. IsReady all_counted (λ o. desk_of o.engine) office.session.seat.me) }
+{
+    match store.split(rt, alloc, first, 1) {
+        Ok(session) => Ok(Office {
+            town,
+            session,
+            made: Ok(0),
+        }),
+        Err(NoMemory) => Err(Fault::Call),
+    }
+}
+
+/// Joins the session of an office to the first one, and answers how many changes the office made.
+fn close(store: &Shared, first: &mut Caller, office: Office) -> Result<u64, Fault>
+    requires of { (first.old.seat.table_id ≡ store.now.turn.table.shared.table_id) × (office.session.seat.table_id ≡ store.now.turn.table.shared.table_id) }
+    requires ready { IsReady all_counted (λ o. desk_of o.engine) first.old.seat.me × IsReady all_counted (λ o. desk_of o.engine) office.session.seat.me }
+    ensures of { first.new.seat.table_id ≡ first.old.seat.table_id }
+    ensures ready { IsReady all_counted (λ o. desk_of o.engine) first.new.seat.me }
+{
+    let Office {
+        town: _,
+        session,
+        made,
+    } = office;
+    store.join(first, session);
+    made.map_err(|_| Fault::Call)
+}
+
+/// Two offices, each in a thread of its own.
+fn two_offices<R: Threads + Wait + Sync>(
+    rt: &R,
+    alloc: Global,
+    store: &Shared,
+    one: Office,
+    other: Office,
+) -> (Office, Office)
+    requires of { (one.session.seat.table_id ≡ store.now.turn.table.shared.table_id) × (other.session.seat.table_id ≡ store.now.turn.table.shared.table_id) }
+    requires ready { IsReady all_counted (λ o. desk_of o.engine) one.session.seat.me × IsReady all_counted (λ o. desk_of o.engine) other.session.seat.me }
+    ensures of { (result.0.session.seat.table_id ≡ one.session.seat.table_id) × (result.1.session.seat.table_id ≡ other.session.seat.table_id) }
+    ensures ready { IsReady all_counted (λ o. desk_of o.engine) result.0.session.seat.me × IsReady all_counted (λ o. desk_of o.engine) result.1.session.seat.me }
+{
+    join(
+        rt,
+        move || -> Office
+            requires { (one.session.seat.table_id ≡ store.now.turn.table.shared.table_id) × IsReady all_counted (λ o. desk_of o.engine) one.session.seat.me }
+            ensures { (result.session.seat.table_id ≡ one.session.seat.table_id) × IsReady all_counted (λ o. desk_of o.engine) result.session.seat.me }
+        { work(rt, alloc, store, one) },
+        move || -> Office
+            requires { (other.session.seat.table_id ≡ store.now.turn.table.shared.table_id) × IsReady all_counted (λ o. desk_of o.engine) other.session.seat.me }
+            ensures { (result.session.seat.table_id ≡ other.session.seat.table_id) × IsReady all_counted (λ o. desk_of o.engine) result.session.seat.me }
+        { work(rt, alloc, store, other) },
+    )
+}
+
+/// What one thread does.
+fn work<R: Wait>(rt: &R, alloc: Global, store: &Shared, office: Office) -> Office
+    requires of { office.session.seat.table_id ≡ store.now.turn.table.shared.table_id }
+    requires ready { IsReady all_counted (λ o. desk_of o.engine) office.session.seat.me }
+    ensures of { result.session.seat.table_id ≡ office.session.seat.table_id }
+    ensures ready { IsReady all_counted (λ o. desk_of o.engine) result.session.seat.me }
+{
+    let Office {
+        town,
+        mut session,
+        made: _,
+    } = office;
+    let made = put_records(rt, alloc, store, &mut session, town);
+    Office {
+        town,
+        session,
+        made,
+    }
+}
+
+/// Puts the records of an office and gets each. Answers how many of these changes it found again.
+fn put_records<R: Wait>(
+    rt: &R,
+    alloc: Global,
+    store: &Shared,
+    session: &mut Caller,
+    town: Town,
+) -> Result<u64, Refused>
+    requires of { session.old.seat.table_id ≡ store.now.turn.table.shared.table_id }
+    requires ready { IsReady all_counted (λ o. desk_of o.engine) session.old.seat.me }
+    ensures of { session.new.seat.table_id ≡ session.old.seat.table_id }
+    ensures ready { IsReady all_counted (λ o. desk_of o.engine) session.new.seat.me }
+{
+    let mut found = 0;
+    for number in 0..RECORDS {
+        let (key, value) = (
+            key_at(alloc, town, number)?,
+            value_of(alloc, "12 Elm Street")?,
+        );
+        let place = store.put(rt, alloc, session, key, 20291231, value)?;
+        // No other office has this key, so the get finds what was just put, whatever the others do meanwhile.
+        let key = key_at(alloc, town, number)?;
+        let read = store.get(rt, alloc, session, &key)?;
+        if read.answer.is_some() && place <= read.at {
+            found += 1;
+        }
+    }
+    Ok(found)
+}
+
+/// What is said of a fault.
+fn told(alloc: Global, fault: &Fault) -> Result<Message, NoMemory> {
+    match fault {
+        Fault::Folder(why) => folder_refused(alloc, FOLDER, why),
+        Fault::Store(why) => match *why {
+            OpenWhy::Damaged { name } => damaged(alloc, name),
+            OpenWhy::OtherConfig { kept } => other_config(alloc, kept.fields(), &Fields::default()),
+            OpenWhy::Fault { .. } => open_fault(alloc),
+            OpenWhy::Exhausted { last } => open_exhausted(alloc, last),
+            OpenWhy::NoMemory => no_memory(alloc),
+        },
+        Fault::Call => refused_call(alloc),
+    }
+}
+
+fn key_at(alloc: Global, town: Town, number: u64) -> Result<Key, Refused> {
+    let name = name_of(town);
+    let text = format!(in alloc; "{name} {number}").map_err(|_| Refused::NoMemory)?;
+    Key::new(text.into_bytes()).map_err(|_| Refused::NoMemory)
+}
+
+fn value_of(alloc: Global, text: &str) -> Result<Value, Refused> {
+    let bytes = Vec::from_slice(alloc, text.as_bytes()).map_err(|_| Refused::NoMemory)?;
+    Value::new(bytes).map_err(|_| Refused::NoMemory)
+}
+
+fn text(bytes: &[u8]) -> &str {
+    str::from_utf8(bytes).unwrap_or("?")
+}
