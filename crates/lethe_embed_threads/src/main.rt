@@ -158,12 +158,11 @@ fn four_offices<R: Threads + Wait + Sync>(
             ensures ready { IsReady all_counted (λ o. desk_of o.engine) result.0.session.seat.me × IsReady all_counted (λ o. desk_of o.engine) result.1.session.seat.me }
         { two_offices(rt, alloc, store, south, west) },
     );
-    Ok([
-        close(store, first, north)?,
-        close(store, first, east)?,
-        close(store, first, south)?,
-        close(store, first, west)?,
-    ])
+    let north = close(store, first, north);
+    let east = close(store, first, east);
+    let south = close(store, first, south);
+    let west = close(store, first, west);
+    Ok([north?, east?, south?, west?])
 }
 
 /// An office with a session that is split from the first one.
