@@ -48,15 +48,23 @@ fn four<D: Disk>(alloc: Global, rt: &impl Abort, engine: &mut Engine<D>, first: 
     assert!(rt; frozen.is_ok());
 }
 
+/// Puts four keys from this one on, and writes them as a file.
+fn file_of_four<D: Disk>(alloc: Global, rt: &impl Abort, engine: &mut Engine<D>, first: u8)
+    requires sound { IsSound D.tells (view_of engine.old.core) }
+    ensures { IsSound D.tells (view_of engine.new.core) }
+{
+    four(alloc, rt, engine, first);
+    let flushed = engine.flush(alloc);
+    assert!(rt; flushed.is_ok());
+}
+
+/// Two files of level 0, and a buffer that is frozen.
 fn filled<D: Disk>(alloc: Global, rt: &impl Abort, engine: &mut Engine<D>)
     requires { IsSound D.tells (view_of engine.old.core) }
     ensures { IsSound D.tells (view_of engine.new.core) }
 {
-    for first in [0, 4] {
-        four(alloc, rt, engine, first);
-        let flushed = engine.flush(alloc);
-        assert!(rt; flushed.is_ok());
-    }
+    file_of_four(alloc, rt, engine, 0);
+    file_of_four(alloc, rt, engine, 4);
     four(alloc, rt, engine, 8);
 }
 
