@@ -1,11 +1,10 @@
 -- The first changes of a history, and what they leave.
-use Rattle.std.proofs.Common.{◌≡◌, ℕ, take, [], ◌∷◌, Some, None, cond, refl, ap, sym, ◌∙◌, length, arith}
+use Rattle.std.proofs.Common.{◌≡◌, ℕ, take, [], ◌∷◌, Some, ap, sym, ◌∙◌, length, arith}
 use Rattle.std.specs.Prelude.{codes}
 use Rattle.std.specs.FinMap as finmap
 use Rattle.std.proofs.lemmas.List.{take_all}
 use Rattle.std.specs.Cmp.Lexicographic.{nat_list_cmp_total}
 use Rattle.lethe_base.specs.History.{Change, History, after, change_at}
-use Rattle.lethe_base.specs.Keys.{key_cmp}
 use Rattle.lethe_base.specs.Read as answers
 use Rattle.lethe_test_client.specs.Scripts.{the_put}
 

@@ -1,6 +1,6 @@
 -- What the clients' runs come to.
-use Rattle.std.proofs.Common.{◌≡◌, ◌⊎◌, ◌∙◌, ◌<◌, ◌≤◌, ◌*◌, ℕ, suc, take, Bool, true, false, ◌||◌, List, [], ◌∷◌, ◌++◌, Option, Some, None, refl, sym, ap, subst, arith, inl, inr, length, lit≤, append-nil}
-use Rattle.std.specs.Prelude.{All, codes}
+use Rattle.std.proofs.Common.{◌≡◌, ◌⊎◌, ◌∙◌, ◌<◌, ◌*◌, ℕ, suc, take, Bool, true, false, ◌||◌, List, [], ◌∷◌, Option, Some, None, refl, sym, ap, subst, arith, inl, inr, length, lit≤, append-nil}
+use Rattle.std.specs.Prelude.{All}
 use Rattle.std.specs.Fmt.{digits}
 use Rattle.std.proofs.lemmas.List.{length-append}
 use Rattle.std.proofs.lemmas.List.Elements.{All-cons, All-nil, All-tail}
@@ -12,7 +12,6 @@ use Rattle.lethe_base.specs.Configuration.{default_fields}
 use Rattle.lethe_base.specs.History.{History}
 use Rattle.lethe_base.specs.Keys.{Bytes}
 use Rattle.lethe_cert.specs.declared.certificate.Certificate.{Certificate}
-use Rattle.lethe_disk.specs.Disk.{Seen}
 use Rattle.lethe_engine.specs.declared.ticking.Ticked.{Ticked}
 use Rattle.lethe_manifest.specs.Manifests.{manifest_bytes}
 use Rattle.lethe_memdisk.specs.Held.{Held, left_by_crash, seen_of}
@@ -21,8 +20,7 @@ use Rattle.lethe_script.specs.declared.order.Order.{Order}
 use Rattle.lethe_stored.specs.Left.{IsLeft, without_failed}
 use Rattle.lethe_run.specs.Anywhere.{AreTold, AreToldThrough, Standing, caller_in}
 use Rattle.lethe_run.specs.Carried.{IsBorneOut, IsCarriedOut, certificates_in, failed_in}
-use Rattle.lethe_run.specs.Ends.{Ends, Run, course_of}
-use Rattle.lethe_run.specs.Printed.{line_text, lines_text}
+use Rattle.lethe_run.specs.Ends.{Ends, course_of}
 use Rattle.lethe_run.specs.Transcript.{AreServed, Course, InTurn, IsServed, has_refusal, is_refusal, printed, text_of}
 use Rattle.lethe_run.specs.Transcript as transcript
 use Rattle.lethe_run.specs.declared.reply.Line.{Line}

@@ -1,13 +1,11 @@
 -- How a client's run ends, from what its lines can be.
-use Rattle.std.proofs.Common.{◌≡◌, ◌⊎◌, ◌∙◌, ◌<◌, ◌≤◌, ◌+◌, ◌-◌, ℕ, suc, take, Bool, true, false, List, [], ◌∷◌, ◌++◌, Option, Some, None, Result, Ok, Err, refl, sym, ap, subst, arith, inl, inr, length}
-use Rattle.std.specs.Prelude.{Contains, IfSome, IsSome, codes, is_ok, is_some, sum_by}
-use Rattle.std.specs.Io.KnownBytes.{Appends}
+use Rattle.std.proofs.Common.{◌≡◌, ◌⊎◌, ◌∙◌, ◌<◌, ◌≤◌, ℕ, suc, take, true, false, List, [], ◌∷◌, ◌++◌, Some, None, Result, Ok, Err, refl, sym, ap, subst, arith, inl, inr, length}
+use Rattle.std.specs.Prelude.{Contains, is_ok, is_some, sum_by}
 use Rattle.std.proofs.lemmas.Bool.{cases_lt}
 use Rattle.std.proofs.lemmas.List.{length-append}
 use Rattle.lethe_wire.specs.Causes.{AppendsFront}
 use Rattle.lethe_wire.specs.Memory.{Wired, sink_room}
 use Rattle.lethe_base.specs.Configuration.{default_fields}
-use Rattle.lethe_base.specs.History.{History, Change}
 use Rattle.lethe_base.specs.Keys.{Bytes}
 use Rattle.lethe_base.specs.declared.config.Fields.{Fields}
 use Rattle.lethe_base.proofs.Newest.{first_or_rest}
@@ -16,10 +14,7 @@ use Rattle.lethe_recover.specs.declared.opening.OpenWhy.{OpenWhy}
 use Rattle.lethe_recover.specs.declared.opening.OpenWhy.TheVariants as why
 use Rattle.lethe_script.specs.Grammar.{script_of}
 use Rattle.lethe_script.specs.declared.order.Order.{Order}
-use Rattle.lethe_script.specs.declared.refused.BadLine.{BadLine}
-use Rattle.lethe_run.specs.Asked.{config_of}
-use Rattle.lethe_run.specs.Carried.{IsCarriedOut}
-use Rattle.lethe_run.specs.Ends.{Answered, Asks, Carries, Ends, IsAsked, IsNotOpened, OnScript, Run, StoppedBehind, course_of}
+use Rattle.lethe_run.specs.Ends.{Answered, Asks, Carries, Ends, IsAsked, IsNotOpened, OnScript, Run, course_of}
 use Rattle.lethe_run.specs.Printed.{open_line}
 use Rattle.lethe_run.specs.Transcript.{has_refusal, text_of}
 use Rattle.lethe_run.specs.declared.reply.Line.{Line}

@@ -1,12 +1,10 @@
 -- Which two lines answer a put and what comes behind it, over a new store.
-use Rattle.std.proofs.Common.{◌≡◌, ◌⊎◌, ◌∙◌, ℕ, suc, take, Bool, true, false, ◌||◌, List, [], ◌∷◌, Option, Some, None, refl, sym, ap, subst, arith, inl, inr, length}
-use Rattle.std.specs.Prelude.{codes, Contains, filter_map, IfSome}
+use Rattle.std.proofs.Common.{◌≡◌, ◌⊎◌, ◌∙◌, ℕ, take, Bool, true, false, ◌||◌, List, [], ◌∷◌, Option, Some, None, refl, ap, subst, arith, inl, inr, length}
+use Rattle.std.specs.Prelude.{codes, Contains, IfSome}
 use Rattle.std.specs.List.{list_any}
-use Rattle.lethe_base.specs.History.{Change, History, after, change_at}
+use Rattle.lethe_base.specs.History.{History, after, change_at}
 use Rattle.lethe_base.specs.Read as answers
 use Rattle.lethe_base.specs.Keys.{Bytes}
-use Rattle.lethe_base.specs.declared.call.Call.TheVariants as call
-use Rattle.lethe_base.specs.declared.call.Did.TheVariants as did
 use Rattle.lethe_cert.specs.declared.certificate.Certificate.{Certificate}
 use Rattle.lethe_engine.specs.Ticks.{IsCertificateAt}
 use Rattle.lethe_engine.specs.declared.ticking.Ticked.{Ticked}

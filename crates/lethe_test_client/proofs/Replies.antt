@@ -1,5 +1,5 @@
 -- Which reply a line has that isn't refused, and why none is on a disk that never failed, on which numbers are to spare.
-use Rattle.std.proofs.Common.{◌≡◌, ◌⊎◌, ◌+◌, ◌≤◌, ℕ, suc, take, Bool, true, false, Option, Some, None, refl, ap, ◌∙◌, arith, inl, inr}
+use Rattle.std.proofs.Common.{◌≡◌, ◌+◌, ◌≤◌, ℕ, suc, take, false, Option, Some, None, refl, ap, ◌∙◌, arith, inl, inr}
 use Rattle.std.specs.Prelude.{IsSomeAnd}
 use Rattle.lethe_base.specs.History.{after}
 use Rattle.lethe_base.specs.Keys.{Bytes}
@@ -7,12 +7,12 @@ use Rattle.lethe_base.specs.Limits.{max_place}
 use Rattle.lethe_base.specs.Read as answers
 use Rattle.lethe_engine.specs.declared.ticking.Ticked.{Ticked}
 use Rattle.lethe_script.specs.declared.order.Act.{Act}
-use Rattle.lethe_script.specs.declared.order.Act.TheVariants.{Put, Get, Scan, Delete, Erase, Stat, Tick, Pin, PinGet, PinScan, Unpin}
+use Rattle.lethe_script.specs.declared.order.Act.TheVariants.{Put, Get, Tick}
 use Rattle.lethe_run.specs.declared.reply.Line.TheVariants.{Answer}
 use Rattle.lethe_run.specs.declared.reply.Reply.{Reply}
 use Rattle.lethe_run.specs.declared.reply.Reply.TheVariants.{Done, Got, Scanned, Counted, Pinned, PinGot, PinScanned, Unpinned, Fault, Stopped, Exhausted, Backwards, Barred, ReadFault, Damaged}
 use Rattle.lethe_run.specs.declared.reply.Reply.TheVariants as replies
-use Rattle.lethe_run.specs.Transcript.{Told, Course, Answers, Follows, IsAnswerAt, IsDoneAt, IsFailedAt, IsTickAt, call_of, change_of, is_refusal}
+use Rattle.lethe_run.specs.Transcript.{Told, Course, Answers, Follows, IsFailedAt, IsTickAt, call_of, is_refusal}
 
 -- what is known of the disk at the end of a run
 pub record IsCalm (course : Course) : Type 0 where

@@ -1,5 +1,5 @@
 -- The runs of the clients.
-use Rattle.std.specs.Prelude.{◌≡◌, ⊤, List, [], ◌∷◌, Some, codes}
+use Rattle.std.specs.Prelude.{◌≡◌, ⊤, [], ◌∷◌, Some, codes}
 use Rattle.std.specs.FinMap.{empty}
 use Rattle.lethe_base.specs.Counts.{Rose}
 use Rattle.lethe_base.specs.Keys.{Bytes}
