@@ -22,7 +22,7 @@ pub record MayStep (Tells : Type 0) (view : View) (before : ℕ) : Type 0 where
   pub fits : view.state.count < max_place
   pub told_from : before ≤ view.faults
 
--- The store is sound, and stands for the same history, or where the disk failed for that with the call that failed in it, by which it is stopped then. The clock stands. A crash at any
+-- The store is sound, and stands for the same history, or where the disk failed for that with the call that failed in it, by which it is stopped then. The clock is as it was. A crash at any
 -- moment of the step leaves what is kept for the history, and numbers are drawn no faster than device calls are made, and the next one doesn't fall. The same pins are held, each object
 -- that one of them names is as it was, byte for byte, also where the disk failed, and no page is retired but those that were and those that a held pin names.
 pub record Keeps (Tells : Type 0) (old new : View) (why : Option Refused) : Type 0 where

@@ -3,3 +3,4 @@ pub mod Objects
 pub mod Quieting
 pub mod Going
 pub mod Causes
+pub mod Continuing

@@ -3,6 +3,11 @@ use Rattle.std.specs.Prelude.{◌≤◌, ◌↔◌, ℕ}
 use Rattle.lethe_disk.specs.Directory.{Directory}
 use Rattle.lethe_disk.specs.Disk.{Seen, Image}
 
+-- Device calls were made: what a crash before them may leave is neither more nor less.
+pub record Continues (old new : Seen) : Type 0 where
+  pub later : old.moment ≤ new.moment
+  pub past : (m : ℕ) (c : Directory) → m ≤ old.moment → (new.left m c ↔ old.left m c)
+
 -- A run. What a crash before it may leave is neither more nor less, and what a crash at each moment of it
 -- may leave came by R from an image that there was at its start.
 pub record Leads (R : Directory → Directory → Type 0) (old new : Seen) : Type 0 where

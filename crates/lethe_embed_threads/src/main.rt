@@ -2,7 +2,7 @@
 #![tactic(auto)]
 
 ghost use Rattle.std.specs.Prelude.{◌≡◌, ◌*◌, ◌<◌, ◌≤◌, IfOk};
-ghost use Rattle.lethe_store.specs.Desks.{desk_of};
+ghost use Rattle.lethe_store.specs.StoreViews.{store_view};
 ghost use Rattle.lethe_store.specs.Sessions.{IsReady};
 ghost use Rattle.lethe_store.specs.Since.{all_counted};
 
@@ -79,7 +79,7 @@ fn main(rt: HostRuntime) -> ExitCode {
 /// The store of the folder, shared, with its first session.
 fn shared(rt: &HostRuntime, alloc: Global) -> Result<(Shared, Caller), Fault>
     ensures of { IfOk result (λ r. r.1.seat.table_id ≡ r.0.turn.table.shared.table_id) }
-    ensures ready { IfOk result (λ r. IsReady all_counted (λ o. desk_of o.engine) r.1.seat.me) }
+    ensures ready { IfOk result (λ r. IsReady all_counted (λ o. store_view o.engine) r.1.seat.me) }
     ensures parts { IfOk result (λ r. 16 ≤ r.1.seat.me.0.parts) }
 {
     let config = Config::new(Fields::default()).map_err(|_| Fault::Call)?;
@@ -98,7 +98,7 @@ fn serve<R: Threads + Wait + Print + Sync>(
     opened: (Shared, Caller),
 ) -> Result<(), Fault>
     requires of { opened.1.seat.table_id ≡ opened.0.turn.table.shared.table_id }
-    requires ready { IsReady all_counted (λ o. desk_of o.engine) opened.1.seat.me }
+    requires ready { IsReady all_counted (λ o. store_view o.engine) opened.1.seat.me }
     requires parts { 16 ≤ opened.1.seat.me.0.parts }
 {
     let (store, mut first) = opened;
@@ -134,10 +134,10 @@ fn four_offices<R: Threads + Wait + Sync>(
     first: &mut Caller,
 ) -> Result<[u64; 4], Fault>
     requires of { first.old.seat.table_id ≡ store.now.turn.table.shared.table_id }
-    requires ready { IsReady all_counted (λ o. desk_of o.engine) first.old.seat.me }
+    requires ready { IsReady all_counted (λ o. store_view o.engine) first.old.seat.me }
     requires parts { 16 ≤ first.old.seat.me.0.parts }
     ensures of { first.new.seat.table_id ≡ first.old.seat.table_id }
-    ensures ready { IsReady all_counted (λ o. desk_of o.engine) first.new.seat.me }
+    ensures ready { IsReady all_counted (λ o. store_view o.engine) first.new.seat.me }
 {
     let north = new_office(rt, alloc, store, first, Town::North)?;
     let east = new_office(rt, alloc, store, first, Town::East)?;
@@ -147,15 +147,15 @@ fn four_offices<R: Threads + Wait + Sync>(
         rt,
         move || -> (Office, Office)
             requires of { (north.session.seat.table_id ≡ store.now.turn.table.shared.table_id) × (east.session.seat.table_id ≡ store.now.turn.table.shared.table_id) }
-            requires ready { IsReady all_counted (λ o. desk_of o.engine) north.session.seat.me × IsReady all_counted (λ o. desk_of o.engine) east.session.seat.me }
+            requires ready { IsReady all_counted (λ o. store_view o.engine) north.session.seat.me × IsReady all_counted (λ o. store_view o.engine) east.session.seat.me }
             ensures of { (result.0.session.seat.table_id ≡ north.session.seat.table_id) × (result.1.session.seat.table_id ≡ east.session.seat.table_id) }
-            ensures ready { IsReady all_counted (λ o. desk_of o.engine) result.0.session.seat.me × IsReady all_counted (λ o. desk_of o.engine) result.1.session.seat.me }
+            ensures ready { IsReady all_counted (λ o. store_view o.engine) result.0.session.seat.me × IsReady all_counted (λ o. store_view o.engine) result.1.session.seat.me }
         { two_offices(rt, alloc, store, north, east) },
         move || -> (Office, Office)
             requires of { (south.session.seat.table_id ≡ store.now.turn.table.shared.table_id) × (west.session.seat.table_id ≡ store.now.turn.table.shared.table_id) }
-            requires ready { IsReady all_counted (λ o. desk_of o.engine) south.session.seat.me × IsReady all_counted (λ o. desk_of o.engine) west.session.seat.me }
+            requires ready { IsReady all_counted (λ o. store_view o.engine) south.session.seat.me × IsReady all_counted (λ o. store_view o.engine) west.session.seat.me }
             ensures of { (result.0.session.seat.table_id ≡ south.session.seat.table_id) × (result.1.session.seat.table_id ≡ west.session.seat.table_id) }
-            ensures ready { IsReady all_counted (λ o. desk_of o.engine) result.0.session.seat.me × IsReady all_counted (λ o. desk_of o.engine) result.1.session.seat.me }
+            ensures ready { IsReady all_counted (λ o. store_view o.engine) result.0.session.seat.me × IsReady all_counted (λ o. store_view o.engine) result.1.session.seat.me }
         { two_offices(rt, alloc, store, south, west) },
     );
     let north = close(store, first, north);
@@ -174,13 +174,13 @@ fn new_office<R: Wait>(
     town: Town,
 ) -> Result<Office, Fault>
     requires of { first.old.seat.table_id ≡ store.now.turn.table.shared.table_id }
-    requires ready { IsReady all_counted (λ o. desk_of o.engine) first.old.seat.me }
+    requires ready { IsReady all_counted (λ o. store_view o.engine) first.old.seat.me }
     requires parts { 1 < first.old.seat.me.0.parts }
     ensures of { first.new.seat.table_id ≡ first.old.seat.table_id }
-    ensures ready { IsReady all_counted (λ o. desk_of o.engine) first.new.seat.me }
+    ensures ready { IsReady all_counted (λ o. store_view o.engine) first.new.seat.me }
     ensures parts { first.old.seat.me.0.parts ≤ 2 * first.new.seat.me.0.parts }
     ensures office_of { IfOk result (λ office. office.session.seat.table_id ≡ first.old.seat.table_id) }
-    ensures office_ready { IfOk result (λ office. IsReady all_counted (λ o. desk_of o.engine) office.session.seat.me) }
+    ensures office_ready { IfOk result (λ office. IsReady all_counted (λ o. store_view o.engine) office.session.seat.me) }
 {
     match store.split(rt, alloc, first, 1) {
         Ok(session) => Ok(Office {
@@ -195,9 +195,9 @@ fn new_office<R: Wait>(
 /// Joins the session of an office to the first one, and answers how many changes the office made.
 fn close(store: &Shared, first: &mut Caller, office: Office) -> Result<u64, Fault>
     requires of { (first.old.seat.table_id ≡ store.now.turn.table.shared.table_id) × (office.session.seat.table_id ≡ store.now.turn.table.shared.table_id) }
-    requires ready { IsReady all_counted (λ o. desk_of o.engine) first.old.seat.me × IsReady all_counted (λ o. desk_of o.engine) office.session.seat.me }
+    requires ready { IsReady all_counted (λ o. store_view o.engine) first.old.seat.me × IsReady all_counted (λ o. store_view o.engine) office.session.seat.me }
     ensures of { first.new.seat.table_id ≡ first.old.seat.table_id }
-    ensures ready { IsReady all_counted (λ o. desk_of o.engine) first.new.seat.me }
+    ensures ready { IsReady all_counted (λ o. store_view o.engine) first.new.seat.me }
 {
     let Office {
         town: _,
@@ -217,19 +217,19 @@ fn two_offices<R: Threads + Wait + Sync>(
     other: Office,
 ) -> (Office, Office)
     requires of { (one.session.seat.table_id ≡ store.now.turn.table.shared.table_id) × (other.session.seat.table_id ≡ store.now.turn.table.shared.table_id) }
-    requires ready { IsReady all_counted (λ o. desk_of o.engine) one.session.seat.me × IsReady all_counted (λ o. desk_of o.engine) other.session.seat.me }
+    requires ready { IsReady all_counted (λ o. store_view o.engine) one.session.seat.me × IsReady all_counted (λ o. store_view o.engine) other.session.seat.me }
     ensures of { (result.0.session.seat.table_id ≡ one.session.seat.table_id) × (result.1.session.seat.table_id ≡ other.session.seat.table_id) }
-    ensures ready { IsReady all_counted (λ o. desk_of o.engine) result.0.session.seat.me × IsReady all_counted (λ o. desk_of o.engine) result.1.session.seat.me }
+    ensures ready { IsReady all_counted (λ o. store_view o.engine) result.0.session.seat.me × IsReady all_counted (λ o. store_view o.engine) result.1.session.seat.me }
 {
     join(
         rt,
         move || -> Office
-            requires { (one.session.seat.table_id ≡ store.now.turn.table.shared.table_id) × IsReady all_counted (λ o. desk_of o.engine) one.session.seat.me }
-            ensures { (result.session.seat.table_id ≡ one.session.seat.table_id) × IsReady all_counted (λ o. desk_of o.engine) result.session.seat.me }
+            requires { (one.session.seat.table_id ≡ store.now.turn.table.shared.table_id) × IsReady all_counted (λ o. store_view o.engine) one.session.seat.me }
+            ensures { (result.session.seat.table_id ≡ one.session.seat.table_id) × IsReady all_counted (λ o. store_view o.engine) result.session.seat.me }
         { work(rt, alloc, store, one) },
         move || -> Office
-            requires { (other.session.seat.table_id ≡ store.now.turn.table.shared.table_id) × IsReady all_counted (λ o. desk_of o.engine) other.session.seat.me }
-            ensures { (result.session.seat.table_id ≡ other.session.seat.table_id) × IsReady all_counted (λ o. desk_of o.engine) result.session.seat.me }
+            requires { (other.session.seat.table_id ≡ store.now.turn.table.shared.table_id) × IsReady all_counted (λ o. store_view o.engine) other.session.seat.me }
+            ensures { (result.session.seat.table_id ≡ other.session.seat.table_id) × IsReady all_counted (λ o. store_view o.engine) result.session.seat.me }
         { work(rt, alloc, store, other) },
     )
 }
@@ -237,9 +237,9 @@ fn two_offices<R: Threads + Wait + Sync>(
 /// What one thread does.
 fn work<R: Wait>(rt: &R, alloc: Global, store: &Shared, office: Office) -> Office
     requires of { office.session.seat.table_id ≡ store.now.turn.table.shared.table_id }
-    requires ready { IsReady all_counted (λ o. desk_of o.engine) office.session.seat.me }
+    requires ready { IsReady all_counted (λ o. store_view o.engine) office.session.seat.me }
     ensures of { result.session.seat.table_id ≡ office.session.seat.table_id }
-    ensures ready { IsReady all_counted (λ o. desk_of o.engine) result.session.seat.me }
+    ensures ready { IsReady all_counted (λ o. store_view o.engine) result.session.seat.me }
 {
     let Office {
         town,
@@ -263,9 +263,9 @@ fn put_records<R: Wait>(
     town: Town,
 ) -> Result<u64, Refused>
     requires of { session.old.seat.table_id ≡ store.now.turn.table.shared.table_id }
-    requires ready { IsReady all_counted (λ o. desk_of o.engine) session.old.seat.me }
+    requires ready { IsReady all_counted (λ o. store_view o.engine) session.old.seat.me }
     ensures of { session.new.seat.table_id ≡ session.old.seat.table_id }
-    ensures ready { IsReady all_counted (λ o. desk_of o.engine) session.new.seat.me }
+    ensures ready { IsReady all_counted (λ o. store_view o.engine) session.new.seat.me }
 {
     let mut found = 0;
     for number in 0..RECORDS {

@@ -32,7 +32,6 @@ use Rattle.lethe_run.specs.Slots.{AreInSlots, Slots, no_slots}
 use Rattle.lethe_run.specs.Transcript.{Start, is_of, printed, text_of}
 use Rattle.lethe_run.proofs.Anywhere.{as_many, stands_still, through_more}
 use Rattle.lethe_run.proofs.Callers.{by_append, told_callers}
-use Rattle.lethe_run.proofs.Images.{calls_then}
 use Rattle.lethe_run.proofs.Phases.{SoFar, front_text, so_far_start, so_far_more, carried}
 use Rattle.lethe_run.proofs.Pins.{same_pins}
 use Rattle.lethe_run.proofs.Refusals.{all_more}
@@ -205,7 +204,7 @@ module _ (Tells Ports : Type 0) (start mid : View) (idle : Tells → IsIdle star
         record {
           history = c.history;
           served = c.served;
-          calls = calls_then start.disk mid.disk finish (record { later = let same = (idle told).moment in omega (arith, same); past = λ m c le. (idle told).left m c }) c.calls;
+          calls = continues_then start.disk mid.disk finish (record { later = let same = (idle told).moment in omega (arith, same); past = λ m c le. (idle told).left m c }) c.calls;
           each = c.each;
           lasting = c.lasting;
           certified = c.certified;

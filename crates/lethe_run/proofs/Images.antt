@@ -9,7 +9,8 @@ use Rattle.lethe_base.specs.declared.config.Fields.{Fields}
 use Rattle.lethe_base.specs.declared.call.Did.TheVariants.{Done, Failed}
 use Rattle.lethe_base.proofs.Histories.{change_at-push}
 use Rattle.lethe_disk.specs.Directory.{Directory}
-use Rattle.lethe_disk.specs.Disk.{Image, Seen}
+use Rattle.lethe_disk.specs.Disk.{Image}
+use Rattle.lethe_disk.proofs.Continuing.{continues_itself}
 use Rattle.lethe_core.specs.Running.{IsRunning}
 use Rattle.lethe_core.specs.StandsNow.{IsOpenOrStopped, IsStopped, StandsNow, retried}
 use Rattle.lethe_core.specs.View.{View}
@@ -23,7 +24,7 @@ use Rattle.lethe_stored.specs.Left.{IsLeft, IsHistoryOr, IsKeptOr, as_done, is_w
 use Rattle.lethe_load.proofs.Gated.{encodes_gated}
 use Rattle.lethe_run.specs.Carried.{HasConfig, failed_in}
 use Rattle.lethe_run.specs.Transcript.{Start, WasStopped, course}
-use Rattle.lethe_run.specs.Serving.{Advances, Continues, IsOn, Point}
+use Rattle.lethe_run.specs.Serving.{Advances, IsOn, Point}
 use Rattle.lethe_run.proofs.Histories.{none_failed, one_failed, same_last, split_last}
 
 clash_did : (before after : ℕ) → Done ≡ Failed before after → ⊥
@@ -77,21 +78,8 @@ done_runs config h view stands done = by view.state.stopped stands.held
     by (Some at) held = absurd (clash_did held.faults_before held.faults (sym (subst AreDone held.history done (suc (length held.before)) held.change (change_at-push held.before held.change)) ∙ held.failed))
 
 -- where nothing is done
-pub calls_still : (disk : Seen) → Continues disk disk
-calls_still disk = record { later = omega arith; past = λ m c le. (λ left. left, λ left. left) }
-
-pub calls_then : (old mid new : Seen) → Continues old mid → Continues mid new → Continues old new
-calls_then old mid new first second = record {
-  later = let a = first.later in let b = second.later in omega (arith, a, b);
-  past = λ m c le.
-      let low = first.later in
-      let here = second.past m c (omega (arith, low)) in
-      let before = first.past m c le in
-      (λ left. before.0 (here.0 left), λ left. here.1 (before.1 left));
-}
-
 pub still : (begin : Start) (h : History) (view : View) → Advances begin h h view view
-still begin h view = record { calls = calls_still view.disk; stands = λ from on. on }
+still begin h view = record { calls = continues_itself view.disk; stands = λ from on. on }
 
 module _ (begin : Start) (from : Point) (h : History) (view : View) (on : IsOn begin from h view) where
   -- the change that stopped it, with its counts, was added since the point

@@ -13,7 +13,7 @@ use Rattle.lethe_state.specs.Remembered.{Remembers}
 use Rattle.lethe_core.specs.StandsNow.{IsOpenOrStopped}
 use Rattle.lethe_core.specs.View.{View}
 use Rattle.lethe_run.specs.Carried.{IsLookOf, IsSeen, Look, failed_in}
-use Rattle.lethe_run.specs.Serving.{Continues, IsOn, Point}
+use Rattle.lethe_run.specs.Serving.{IsOn, Point}
 use Rattle.lethe_run.specs.Transcript.{Start}
 use Rattle.lethe_run.proofs.Images.{runs_by}
 

@@ -26,7 +26,7 @@ use Rattle.lethe_run.specs.declared.reply.Reply.{Reply}
 use Rattle.lethe_run.specs.declared.reply.Reply.TheVariants.{Done, Ticked, Got, Scanned, Counted, Pinned, PinGot, PinScanned, Unpinned, Fault, Stopped, Exhausted, Backwards, Barred, ReadFault, Damaged}
 use Rattle.lethe_run.specs.Carried.{IsSeen, Look, certificate_in, certificate_of, certificates_in, look_of, looked_in, looks_in}
 use Rattle.lethe_run.specs.Serving.{Advances, IsBorneOn, IsOn, IsAnswered, IsPhase, IsServedInTurn, Point}
-use Rattle.lethe_run.proofs.Images.{calls_then, still}
+use Rattle.lethe_run.proofs.Images.{still}
 use Rattle.lethe_run.proofs.Lasting.{within}
 use Rattle.lethe_run.proofs.Outcomes.{told_of}
 use Rattle.lethe_run.proofs.Seen.{all_seen_later}
@@ -185,7 +185,7 @@ module _ (Ports : Type 0) (begin : Start) (f0 f1 m0 m1 : ℕ) (on : m0 ≤ m1) w
 
 -- one after another
 pub advances_then : (begin : Start) (f g h : History) (old mid new : View) → Advances begin f g old mid → Advances begin g h mid new → Advances begin f h old new
-advances_then begin f g h old mid new first second = record { calls = calls_then old.disk mid.disk new.disk first.calls second.calls; stands = λ from on. second.stands from (first.stands from on) }
+advances_then begin f g h old mid new first second = record { calls = continues_then old.disk mid.disk new.disk first.calls second.calls; stands = λ from on. second.stands from (first.stands from on) }
 
 -- what a certificate says stays so
 borne_later : (begin : Start) (h g : History) (old new : View) → Advances begin h g old new → (told : ℕ × Certificate) → IsBorneOn begin h old told → IsBorneOn begin g new told

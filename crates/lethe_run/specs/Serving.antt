@@ -1,8 +1,9 @@
 -- What carrying out orders over a store comes to.
-use Rattle.std.specs.Prelude.{◌≡◌, ◌≤◌, ◌↔◌, ℕ, List, ◌++◌, filter, filter_map, length, All, IfSome, IsPermutation, None, ◌-◌}
+use Rattle.std.specs.Prelude.{◌≡◌, ◌≤◌, ℕ, List, ◌++◌, filter, filter_map, length, All, IfSome, IsPermutation, None, ◌-◌}
 use Rattle.lethe_base.specs.History.{History, AreDone, IsLegal, after}
 use Rattle.lethe_disk.specs.Directory.{Directory}
 use Rattle.lethe_disk.specs.Disk.{Seen}
+use Rattle.lethe_disk.specs.Runs.{Continues}
 use Rattle.lethe_cert.specs.declared.certificate.Certificate.{Certificate}
 use Rattle.lethe_engine.specs.Certificates.{HasCommitted}
 use Rattle.lethe_engine.specs.StandsFor.{IsKeptFor, Opened, StandsSince}
@@ -41,11 +42,6 @@ pub record IsBorneOn (begin : Start) (h : History) (view : View) (told : ℕ × 
   pub place : length point.history ≡ told.0
   pub on : IsOn begin point h view
   pub each : (c : Directory) → view.disk.left point.moment c → HasCommitted c told.1 told.0 × IsClean begin.config.threshold c point.history told.1.clock
-
--- Device calls were made: what a crash before them may leave is neither more nor less.
-pub record Continues (old new : Seen) : Type 0 where
-  pub later : old.moment ≤ new.moment
-  pub past : (m : ℕ) (c : Directory) → m ≤ old.moment → (new.left m c ↔ old.left m c)
 
 -- The history went on from h to g, and the store stands for it, whatever point it is seen from.
 pub record Advances (begin : Start) (h g : History) (old new : View) : Type 0 where

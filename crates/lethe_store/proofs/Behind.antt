@@ -23,7 +23,7 @@ use Rattle.lethe_turn.specs.Seats.{HasSeenMore, count_of, entered, passed, passe
 use Rattle.lethe_turn.specs.declared.view.View.{View}
 use Rattle.lethe_store.specs.declared.entry.Entry.{Entry}
 use Rattle.lethe_store.specs.declared.entry.Mark.{Mark}
-use Rattle.lethe_store.specs.Desks.{Desk}
+use Rattle.lethe_store.specs.StoreViews.{StoreView}
 use Rattle.lethe_store.specs.Entries.{changes_of, did_by, entries_by, entries_of, stopped_behind}
 use Rattle.lethe_store.specs.Reads.{HasRead, HasReadClock, IsClockSeen}
 use Rattle.lethe_store.specs.Reasons.{HasReasonOfChange, HasReasonOfRead, IsStoppedAt, PortCounts}
@@ -54,39 +54,39 @@ first_failure Tells PortsFail old new before now (Err why) reason = by why reaso
 abbrev pub Knows : Type 0 → Type 0
 Knows V = View V Entry Mark
 
-module _ {V : Type 0} (Tells PortsFail : Type 0) (see : V → Desk) where
-  abbrev pub Leads : Knows V → Desk → Type 0
+module _ {V : Type 0} (Tells PortsFail : Type 0) (see : V → StoreView) where
+  abbrev pub Leads : Knows V → StoreView → Type 0
   Leads v x = IsLedTo see (Since Tells PortsFail) v x
 
   -- how many changes the store counts, by what the session has seen
-  pub counts_seen : (v : Knows V) (x : Desk) → KnowsOpened all_counted see v → Leads v x → x.view.state.count ≡ count_of v
+  pub counts_seen : (v : Knows V) (x : StoreView) → KnowsOpened all_counted see v → Leads v x → x.view.state.count ≡ count_of v
   counts_seen v x (o, is, start) leads = let c = (leads o is).count in let s : v.start ≡ (see o).view.state.count = start in let e : x.view.state.count ≡ count_of v = omega arith in e
 
   -- there is room for what was entered
-  pub has_room : (v : Knows V) (said : List Entry) (noted : List Mark) (x : Desk) → KnowsOpened all_counted see v → Leads (passed_noting noted (entered said v)) x → count_of v + length said < 2 ^ 62
+  pub has_room : (v : Knows V) (said : List Entry) (noted : List Mark) (x : StoreView) → KnowsOpened all_counted see v → Leads (passed_noting noted (entered said v)) x → count_of v + length said < 2 ^ 62
   has_room v said noted x (o, is, start) leads =
       let c = (leads o is).count in let few : x.view.state.count ≤ max_place = (leads o is).sound.writable.count in
       let l : length (v.seen ++ said) ≡ length v.seen + length said = length-append v.seen said in let s : v.start ≡ (see o).view.state.count = start in omega arith
 
   -- passing a turn on changes nothing of what was seen
-  pub leads_passed : (w x : Knows V) (desk : Desk) → Leads w desk → x ≡ passed w → Leads x desk
-  leads_passed w x desk leads is = λ o op. subst (λ v. Since Tells PortsFail (see o) v.seen v.noted desk) (sym is) (leads o (sym (ap (λ v. v.opened) is) ∙ op))
+  pub leads_passed : (w x : Knows V) (shown : StoreView) → Leads w shown → x ≡ passed w → Leads x shown
+  leads_passed w x shown leads is = λ o op. subst (λ v. Since Tells PortsFail (see o) v.seen v.noted shown) (sym is) (leads o (sym (ap (λ v. v.opened) is) ∙ op))
 
   -- the store behind a read answers as the map is behind what was seen
-  pub read_at : (v : Knows V) (x : Desk) (asked : Read) (given : Answer) → Leads v x → (Tells → (config : Fields) (h : History) → StandsNow config h x.view → answer (after h) asked ≡ given) → HasRead Tells see v asked given
+  pub read_at : (v : Knows V) (x : StoreView) (asked : Read) (given : Answer) → Leads v x → (Tells → (config : Fields) (h : History) → StandsNow config h x.view → answer (after h) asked ≡ given) → HasRead Tells see v asked given
   read_at v x asked given leads clause =
       λ o is told config opened h s. clause told config (h ++ changes_of v.seen) (stands_along Tells PortsFail (see o) x v.seen v.noted (leads o is) told config opened h s).now
 
-  pub clock_at : (v : Knows V) (x : Desk) (given : ℕ) → Leads v x → ((config : Fields) (h : History) → StandsNow config h x.view → given ≡ (after h).clock) → HasReadClock Tells see v given
+  pub clock_at : (v : Knows V) (x : StoreView) (given : ℕ) → Leads v x → ((config : Fields) (h : History) → StandsNow config h x.view → given ≡ (after h).clock) → HasReadClock Tells see v given
   clock_at v x given leads clause =
       λ o is told config opened h s. sym (clause config (h ++ changes_of v.seen) (stands_along Tells PortsFail (see o) x v.seen v.noted (leads o is) told config opened h s).now)
 
-  pub clock_seen : (v : Knows V) (x : Desk) (given : ℕ) → Leads v x → given ≡ x.view.state.manifest.clock → IsClockSeen see v given
+  pub clock_seen : (v : Knows V) (x : StoreView) (given : ℕ) → Leads v x → given ≡ x.view.state.manifest.clock → IsClockSeen see v given
   clock_seen v x given leads is = λ o op. is ∙ ap (λ c. c.time) (leads o op).clock
 
   -- Behind a change: v is what the session knew before it, w in its turn, and x behind it
 
-  module _ (v w : Knows V) (old new : Desk) (caller : ℕ) (call : Call) (why : Option Refused) (more : HasSeenMore v w) (leads : Leads w old) where
+  module _ (v w : Knows V) (old new : StoreView) (caller : ℕ) (call : Call) (why : Option Refused) (more : HasSeenMore v w) (leads : Leads w old) where
     abbrev made : List Entry
     made = entries_by caller (Makes call) why
 
@@ -116,7 +116,7 @@ module _ {V : Type 0} (Tells PortsFail : Type 0) (see : V → Desk) where
     knows_made x said calls did noted is called went none given = given ∙ (λ i. passed_noting (none i) (entered (told_is said calls did is called went i) w))
 
   -- the place that it answered is how many changes it has then seen
-  pub placed_at : (v w x : Knows V) (old : Desk) (caller : ℕ) (call : Call) (result : Result ℕ Refused) → KnowsOpened all_counted see v → HasSeenMore v w → Leads w old
+  pub placed_at : (v w x : Knows V) (old : StoreView) (caller : ℕ) (call : Call) (result : Result ℕ Refused) → KnowsOpened all_counted see v → HasSeenMore v w → Leads w old
       → IfOk result (λ place. place ≡ old.view.state.count + 1) → x ≡ passed_noting [] (entered (entries_by caller (Makes call) (result_err result)) w) → IfOk result (λ place. place ≡ count_of x)
   placed_at v w x old caller call (Ok place) knows more leads told is =
       let n = counts_seen w old (knows_after all_counted see v w knows more.opened more.start) leads in
@@ -125,13 +125,13 @@ module _ {V : Type 0} (Tells PortsFail : Type 0) (see : V → Desk) where
   placed_at v w x old caller call (Err why) knows more leads told is = tt
 
   -- where a change that it had seen failed, it is refused for that
-  pub stopped_before : (v w : Knows V) (old : Desk) (at : ℕ) → KnowsOpened all_counted see v → HasSeenMore v w → Leads w old → IsStoppedAt see v at → old.view.state.stopped ≡ Some at
+  pub stopped_before : (v w : Knows V) (old : StoreView) (at : ℕ) → KnowsOpened all_counted see v → HasSeenMore v w → Leads w old → IsStoppedAt see v at → old.view.state.stopped ≡ Some at
   stopped_before v w old at (o, is, start) more leads stopped =
       (leads o (more.opened ∙ is)).stopped
       ∙ ap (stopped_behind (see o).view.state.stopped (see o).view.state.count) (sym more.seen.1)
       ∙ stays_stopped (see o).view.state.stopped (see o).view.state.count at v.seen more.seen.0 (stopped o is)
 
-  module _ (v w x : Knows V) (old new : Desk) (caller : ℕ) (call : Call) (knows : KnowsOpened all_counted see v) (more : HasSeenMore v w) (leads : Leads w old) (before now : PortCounts) where
+  module _ (v w x : Knows V) (old new : StoreView) (caller : ℕ) (call : Call) (knows : KnowsOpened all_counted see v) (more : HasSeenMore v w) (leads : Leads w old) (before now : PortCounts) where
     reason : (why : Refused) → engine.HasReasonOfChange Tells PortsFail old.view new.view before.faults now.faults why → ((name : Name) → why ≡ Damaged name → before.fetches < now.fetches)
         → x ≡ passed_noting [] (entered (entries_by caller (Makes call) (Some why)) w) → HasReasonOfChange Tells PortsFail see x before now why
     reason (Fault place told_before told_now) (inl is) fetched given =

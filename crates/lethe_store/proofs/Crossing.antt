@@ -13,7 +13,7 @@ use Rattle.lethe_store.specs.contracts.lent.Lent as Lent
 use Rattle.lethe_store.specs.contracts.session.Session as Session
 use Rattle.lethe_store.specs.contracts.store.Store as Store
 use Rattle.lethe_store.specs.declared.log.Log as log
-use Rattle.lethe_store.specs.Desks.{desk_of}
+use Rattle.lethe_store.specs.StoreViews.{store_view}
 
 u64_send : IsSend (as_row u64-field)
 u64_send = search (as_row_send, sendable)
@@ -31,7 +31,7 @@ module _ (D L P Q E M : RattleType) (g : Ghosts D.Denot P.Denot Q.Denot) (s : Is
   -- what the turn asks of the store that it lends
   abbrev lent_ghosts : log.Ghosts L.Denot E.Denot M.Denot → BehindGhosts (Lent.the_row D L P Q E M g).Denot E.Denot M.Denot
   lent_ghosts h = record {
-    since = λ o l m x. h.since g.tells g.ports_fail (desk_of o.engine) l m (desk_of x.engine);
+    since = λ o l m x. h.since g.tells g.ports_fail (store_view o.engine) l m (store_view x.engine);
     fits = h.fits;
     fits_none = h.fits_none;
     fits_both = h.fits_both;

@@ -18,15 +18,16 @@ use Rattle.lethe_core.specs.Asked.{Asked, Makes, Serves, Failure, behind, clock_
 use Rattle.lethe_core.specs.Running.{IsSound}
 use Rattle.lethe_core.specs.View.{View, face_of}
 use Rattle.lethe_cover.specs.Steps.{with_done, with_failed}
-use Rattle.lethe_disk.specs.Disk.{Seen}
+use Rattle.lethe_disk.specs.Runs.{Continues}
+use Rattle.lethe_disk.proofs.Continuing.{continues_itself, continues_then}
 use Rattle.lethe_engine.specs.Answers.{Answers}
 use Rattle.lethe_engine.specs.StandsFor.{IsCertified, Opened, StandsFor, StandsSince, opened_at}
 use Rattle.lethe_state.specs.Clock.{Clock, clock_of}
 use Rattle.lethe_store.specs.declared.entry.Entry.{Entry}
 use Rattle.lethe_store.specs.declared.entry.Mark.{Mark}
-use Rattle.lethe_store.specs.Desks.{Desk, IsSameStore, failure_in}
+use Rattle.lethe_store.specs.StoreViews.{StoreView, IsSameStore, failure_in}
 use Rattle.lethe_store.specs.Entries.{change_of, changes_of, clock_along, clock_by, entries_by, entries_of, failed_at, stopped_behind}
-use Rattle.lethe_store.specs.Since.{AnyMarks, Continues, Since}
+use Rattle.lethe_store.specs.Since.{AnyMarks, Since}
 
 -- What is entered of a call is what the call says of the history, of the count, of what stopped the store, and of the clock
 
@@ -107,21 +108,6 @@ clock_is caller (Serves call) None clock = refl
 clock_is caller (Makes call) (Some why) clock = refused_clock call why clock ∙ failed_clocks caller call clock (failure_of why)
 clock_is caller (Serves call) (Some why) clock = failed_clocks caller call clock (failure_of why)
 
--- Device calls one behind another
-
-pub calls_still : (disk : Seen) → Continues disk disk
-calls_still disk = record { later = omega arith; past = λ m c le. (λ left. left, λ left. left) }
-
-calls_then : (old mid new : Seen) → Continues old mid → Continues mid new → Continues old new
-calls_then old mid new first second = record {
-  later = let a = first.later in let b = second.later in omega (arith, a, b);
-  past = λ m c le.
-      let low = first.later in
-      let here = second.past m c (omega (arith, low)) in
-      let before = first.past m c le in
-      (λ left. before.0 (here.0 left), λ left. here.1 (before.1 left));
-}
-
 -- A certificate that stood stands behind a call, whatever was seen of the store's opening
 
 module _ (config : Fields) (opened : Opened) (h g : History) (old new : View) (on : (start : Opened) → StandsSince config start h old → StandsSince config start g new) (calls : Continues old.disk new.disk) where
@@ -146,12 +132,12 @@ module _ (config : Fields) (opened : Opened) (h g : History) (old new : View) (o
     certified = All-weaker (IsCertified config opened h old) (IsCertified config opened g new) some_certified answered stands.certified;
   }
 
-module _ (Tells PortsFail : Type 0) (o old : Desk) (entries : List Entry) (marks : List Mark) (since : Since Tells PortsFail o entries marks old) where
+module _ (Tells PortsFail : Type 0) (o old : StoreView) (entries : List Entry) (marks : List Mark) (since : Since Tells PortsFail o entries marks old) where
   -- whatever history the opened store stood for, it stands for that with the entries
   pub stands_along : Tells → (config : Fields) (opened : Opened) (h : History) → StandsSince config opened h o.view → StandsSince config opened (h ++ changes_of entries) old.view
   stands_along told config opened h s = (since.stands told config opened h [] (record { since = s; certified = All-nil (IsCertified config opened h o.view) })).since
 
-  module _ (new : Desk) (caller : ℕ) (asked : Asked) (why : Option Refused) (answers : Answers Tells asked why (face_of old.view) old.view new.view)
+  module _ (new : StoreView) (caller : ℕ) (asked : Asked) (why : Option Refused) (answers : Answers Tells asked why (face_of old.view) old.view new.view)
       (first : IsFirstFailure old.view.state.stopped old.view.state.count why) (same : new.certificates ≡ old.certificates) where
     abbrev said : List Entry
     said = entries_by caller asked why
@@ -183,11 +169,11 @@ module _ (Tells PortsFail : Type 0) (o old : Desk) (entries : List Entry) (marks
           (all_certified config opened (h ++ changes_of entries) (behind (h ++ changes_of entries) caller asked why) old.view new.view
           (λ start on. answers.stands told config start (h ++ changes_of entries) on caller) (calls_behind told config opened h stood.since) answered stood);
       calls = λ told config opened h s.
-          calls_then o.view.disk old.view.disk new.view.disk (since.calls told config opened h s) (calls_behind told config opened h (stands_along told config opened h s));
+          continues_then o.view.disk old.view.disk new.view.disk (since.calls told config opened h s) (calls_behind told config opened h (stands_along told config opened h s));
     }
 
 -- the opened store has had no entry
-pub since_opened : (Tells PortsFail : Type 0) (o : Desk) → IsSound Tells o.view → Since Tells PortsFail o [] [] o
+pub since_opened : (Tells PortsFail : Type 0) (o : StoreView) → IsSound Tells o.view → Since Tells PortsFail o [] [] o
 since_opened Tells PortsFail o sound = record {
   sound = sound;
   count = (let e : o.view.state.count ≡ o.view.state.count + 0 = omega arith in e);
@@ -197,7 +183,7 @@ since_opened Tells PortsFail o sound = record {
   face = refl;
   certificates = refl;
   stands = λ told config opened h answered s. subst (λ l. StandsFor config opened l o.view answered) (sym (append-nil h)) s;
-  calls = λ told config opened h s. calls_still o.view.disk;
+  calls = λ told config opened h s. continues_itself o.view.disk;
 }
 
 nothing_said : (caller : ℕ) (why : Option Refused) → failure_in why ≡ None → entries_by caller (Serves Work) why ≡ []
@@ -205,7 +191,7 @@ nothing_said caller None unfailed = refl
 nothing_said caller (Some why) unfailed = ap (λ o. entries_of caller (Work ∷ []) (option_map (λ failure. Failed failure.before failure.after) o)) unfailed
 
 -- where nothing of the store was changed it is what it was
-pub since_same : (Tells PortsFail : Type 0) (o : Desk) (entries : List Entry) (marks : List Mark) (old new : Desk) → Since Tells PortsFail o entries marks old → IsSameStore Tells old new → Since Tells PortsFail o entries marks new
+pub since_same : (Tells PortsFail : Type 0) (o : StoreView) (entries : List Entry) (marks : List Mark) (old new : StoreView) → Since Tells PortsFail o entries marks old → IsSameStore Tells old new → Since Tells PortsFail o entries marks new
 since_same Tells PortsFail o entries marks old new since same =
     subst (λ l. Since Tells PortsFail o l marks new) (ap (λ l. entries ++ l) (nothing_said 0 same.why same.unfailed) ∙ append-nil entries)
     (since_call Tells PortsFail o old entries marks since new 0 (Serves Work) same.why same.answers (λ failure is. absurd (clash failure (sym same.unfailed ∙ is))) same.certificates)
@@ -219,7 +205,7 @@ port_unfailed (Ok port) = refl
 port_unfailed (Err none) = refl
 
 -- so nothing of the store is changed, whether or not there was memory
-pub same_behind_port : {T E : Type 0} (Tells : Type 0) (old new : Desk) (r : Result T E) → Answers Tells (Serves Work) (option_map (λ none. NoMemory) (result_err r)) (face_of old.view) old.view new.view
+pub same_behind_port : {T E : Type 0} (Tells : Type 0) (old new : StoreView) (r : Result T E) → Answers Tells (Serves Work) (option_map (λ none. NoMemory) (result_err r)) (face_of old.view) old.view new.view
     → new.view.state ≡ old.view.state → new.view.pins ≡ old.view.pins → new.certificates ≡ old.certificates → IsSameStore Tells old new
 same_behind_port Tells old new r answers state pins certificates = record {
   why = option_map (λ none. NoMemory) (result_err r);
@@ -238,5 +224,5 @@ any_none = tt
 pub any_both : (a b : List Mark) → AnyMarks a → AnyMarks b → AnyMarks (a ++ b)
 any_both a b first second = tt
 
-pub since_sound : (Tells PortsFail : Type 0) (opened : Desk) (entries : List Entry) (marks : List Mark) (desk : Desk) → Since Tells PortsFail opened entries marks desk → IsSound Tells desk.view
-since_sound Tells PortsFail opened entries marks desk since = since.sound
+pub since_sound : (Tells PortsFail : Type 0) (opened : StoreView) (entries : List Entry) (marks : List Mark) (shown : StoreView) → Since Tells PortsFail opened entries marks shown → IsSound Tells shown.view
+since_sound Tells PortsFail opened entries marks shown since = since.sound

@@ -1,4 +1,4 @@
-pub mod Desks
+pub mod StoreViews
 pub mod Sessions
 pub mod Entries
 pub mod Since

@@ -7,7 +7,7 @@ use Rattle.lethe_base.specs.declared.refused.Refused.TheVariants.{Fault, Stopped
 use Rattle.lethe_turn.specs.Seats.{count_of}
 use Rattle.lethe_turn.specs.declared.view.View.{View}
 use Rattle.lethe_store.specs.declared.entry.Entry.{Entry}
-use Rattle.lethe_store.specs.Desks.{Desk}
+use Rattle.lethe_store.specs.StoreViews.{StoreView}
 use Rattle.lethe_store.specs.Entries.{stopped_behind}
 
 -- the counts of a port: of its fetches, and of those that failed
@@ -38,12 +38,12 @@ HasReasonOfRead Tells PortsFail before now (Exhausted last) = ⊥
 
 module _ {M V : Type 0} where
   -- by what it has seen the store is stopped by the change at this place, which failed, or was opened so
-  abbrev pub IsStoppedAt : (V → Desk) → View V Entry M → ℕ → Type 0
+  abbrev pub IsStoppedAt : (V → StoreView) → View V Entry M → ℕ → Type 0
   IsStoppedAt see v at = (o : V) → v.opened ≡ Some o → stopped_behind (see o).view.state.stopped (see o).view.state.count v.seen ≡ Some at
 
   -- Why a change is refused, by what the session has seen then: the disk failed in it, its count of faults rose, and the change stands last there; a change that it has seen there failed; the
   -- places or numbers are used up; or as for a read, where the store read files to make room.
-  abbrev pub HasReasonOfChange : Type 0 → Type 0 → (V → Desk) → View V Entry M → PortCounts → PortCounts → Refused → Type 0
+  abbrev pub HasReasonOfChange : Type 0 → Type 0 → (V → StoreView) → View V Entry M → PortCounts → PortCounts → Refused → Type 0
   HasReasonOfChange Tells PortsFail see v before now (Fault place told_before told_now) = (place ≡ count_of v) × Rose told_before told_now
   HasReasonOfChange Tells PortsFail see v before now (Stopped at) = IsStoppedAt see v at
   HasReasonOfChange Tells PortsFail see v before now (Exhausted last) = last ≡ max_place

@@ -3,23 +3,23 @@ use Rattle.std.specs.Prelude.{◌≡◌, ℕ, ◌+◌, List, [], ◌++◌, lengt
 use Rattle.lethe_turn.specs.Lists.{IsBeginning, placed}
 use Rattle.lethe_turn.specs.Seats.{HasSeenMore, IsFree, KnowsTheWhole, Seated, first_view, left_of, right_of}
 use Rattle.lethe_turn.specs.declared.view.View.{View}
-use Rattle.lethe_store.specs.Desks.{Desk, IsSameStore}
+use Rattle.lethe_store.specs.StoreViews.{StoreView, IsSameStore}
 
 module _ {E M V : Type 0} where
   -- It knows the store that was opened, and how many entries lay before its first one, by how many changes that store counted.
-  abbrev pub KnowsOpened : (ℕ → ℕ) → (V → Desk) → View V E M → Type 0
+  abbrev pub KnowsOpened : (ℕ → ℕ) → (V → StoreView) → View V E M → Type 0
   KnowsOpened start see v = (o : V) × (v.opened ≡ Some o) × (v.start ≡ start (see o).view.state.count)
 
   -- it is ready for a call: it has parts and no turn, and knows the opened store
-  abbrev pub IsReady : (ℕ → ℕ) → (V → Desk) → Seated E M V → Type 0
+  abbrev pub IsReady : (ℕ → ℕ) → (V → StoreView) → Seated E M V → Type 0
   IsReady start see m = IsFree m × KnowsOpened start see m.0
 
   -- it is the first one, over the store as it was handed in
-  abbrev pub IsFirst : Type 0 → (V → Desk) → Desk → ℕ → Seated E M V → Type 0
+  abbrev pub IsFirst : Type 0 → (V → StoreView) → StoreView → ℕ → Seated E M V → Type 0
   IsFirst Tells see handed count m = (o : V) × (m ≡ (first_view o count, [])) × IsSameStore Tells handed (see o)
 
   -- the store is one to which what it has seen and noted leads from the opened one
-  abbrev pub IsLedTo : (V → Desk) → (Desk → List E → List M → Desk → Type 0) → View V E M → Desk → Type 0
+  abbrev pub IsLedTo : (V → StoreView) → (StoreView → List E → List M → StoreView → Type 0) → View V E M → StoreView → Type 0
   IsLedTo see since v x = (o : V) → v.opened ≡ Some o → since (see o) v.seen v.noted x
 
 -- It has made a call: it has seen and noted as much or more, and behind all that stand these entries and these marks, which are its own. Nothing else of it is changed.
@@ -40,7 +40,7 @@ pub record HasSplit {E M V : Type 0} (v w other : View V E M) : Type 0 where
   pub right : other ≡ right_of at
 
 -- It was the last one to have the turn, behind which it had seen the whole history and noted the whole diary. They lead to the store that came out.
-pub record HasFinished {E M V : Type 0} (see : V → Desk) (since : Desk → List E → List M → Desk → Type 0) (fits : List M → Type 0) (v : View V E M) (x : Desk) : Type 0 where
+pub record HasFinished {E M V : Type 0} (see : V → StoreView) (since : StoreView → List E → List M → StoreView → Type 0) (fits : List M → Type 0) (v : View V E M) (x : StoreView) : Type 0 where
   pub last : View V E M
   pub more : HasSeenMore v last
   pub leads : IsLedTo see since last x

@@ -1,17 +1,16 @@
 -- What became of an opened store by the changes since.
-use Rattle.std.specs.Prelude.{◌≡◌, ◌≤◌, ◌↔◌, ℕ, ◌+◌, List, ◌++◌, length}
+use Rattle.std.specs.Prelude.{◌≡◌, ◌≤◌, ℕ, ◌+◌, List, ◌++◌, length}
 use Rattle.lethe_base.specs.History.{History}
 use Rattle.lethe_base.specs.declared.config.Fields.{Fields}
 use Rattle.lethe_cert.specs.declared.certificate.Certificate.{Certificate}
 use Rattle.lethe_core.specs.Running.{IsSound}
 use Rattle.lethe_core.specs.View.{face_of}
-use Rattle.lethe_disk.specs.Directory.{Directory}
-use Rattle.lethe_disk.specs.Disk.{Seen}
+use Rattle.lethe_disk.specs.Runs.{Continues}
 use Rattle.lethe_engine.specs.StandsFor.{Opened, StandsFor, StandsSince}
 use Rattle.lethe_state.specs.Clock.{clock_of}
 use Rattle.lethe_store.specs.declared.entry.Entry.{Entry}
 use Rattle.lethe_store.specs.declared.entry.Mark.{Mark}
-use Rattle.lethe_store.specs.Desks.{Desk}
+use Rattle.lethe_store.specs.StoreViews.{StoreView}
 use Rattle.lethe_store.specs.Entries.{changes_of, clock_along, stopped_behind}
 
 -- all changes that the opened store counts lie before the first entry
@@ -22,15 +21,10 @@ all_counted count = count
 abbrev pub AnyMarks : List Mark → Type 0
 AnyMarks marks = Unit {0}
 
--- Device calls were made: what a crash before them may leave is neither more nor less.
-pub record Continues (old new : Seen) : Type 0 where
-  pub later : old.moment ≤ new.moment
-  pub past : (m : ℕ) (c : Directory) → m ≤ old.moment → (new.left m c ↔ old.left m c)
-
 -- The store is sound. It counts these entries, the first of them that failed stopped it, if none had before, and its ticks moved its clock. Its disk's count of faults didn't fall, and its
 -- jobs and pins and the certificates that it has answered are as they were. Whatever history and certificates the opened one stood for, on a disk that tells what it holds it stands for that
 -- history with the entries and for those certificates, and what a crash before may leave is as it was.
-pub record Since (Tells PortsFail : Type 0) (o : Desk) (entries : List Entry) (marks : List Mark) (x : Desk) : Type 0 where
+pub record Since (Tells PortsFail : Type 0) (o : StoreView) (entries : List Entry) (marks : List Mark) (x : StoreView) : Type 0 where
   pub sound : IsSound Tells x.view
   pub count : x.view.state.count ≡ o.view.state.count + length entries
   pub stopped : x.view.state.stopped ≡ stopped_behind o.view.state.stopped o.view.state.count entries

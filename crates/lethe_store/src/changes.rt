@@ -2,7 +2,7 @@
 ghost use Rattle.std.specs.Prelude.{◌≡◌, IfOk, IfErr};
 ghost use Rattle.lethe_core.specs.Running.{IsSound};
 ghost use Rattle.lethe_core.specs.View.{view_of};
-ghost use Rattle.lethe_store.specs.Desks.{IsSameStore, desk_of};
+ghost use Rattle.lethe_store.specs.StoreViews.{IsSameStore, store_view};
 ghost use Rattle.lethe_store.specs.Since.{all_counted};
 ghost use Rattle.lethe_store.specs.Sessions.{IsFirst, IsReady};
 
@@ -56,9 +56,9 @@ impl<D: Disk> Store<D, Changes> {
     ) -> Result<(Store<D, Changes>, Session<D, Changes>), (Engine<D>, NoMemory)>
         requires sound { IsSound D.tells (view_of engine.core) }
         ensures of { IfOk result (λ r. (r.1.seat.table_id ≡ r.0.turn.table.shared.table_id) × (r.1.caller ≡ 0) × (D.fetches r.1.port ≡ 0) × (D.port_faults r.1.port ≡ 0)) }
-        ensures ready { IfOk result (λ r. IsReady all_counted (λ o. desk_of o.engine) r.1.seat.me) }
-        ensures first { IfOk result (λ r. IsFirst D.tells (λ o. desk_of o.engine) (desk_of engine) engine.core.state.count r.1.seat.me) }
-        ensures back { IfErr result (λ r. IsSameStore D.tells (desk_of engine) (desk_of r.0)) }
+        ensures ready { IfOk result (λ r. IsReady all_counted (λ o. store_view o.engine) r.1.seat.me) }
+        ensures first { IfOk result (λ r. IsFirst D.tells (λ o. store_view o.engine) (store_view engine) engine.core.state.count r.1.seat.me) }
+        ensures back { IfErr result (λ r. IsSameStore D.tells (store_view engine) (store_view r.0)) }
     {
         let count = engine.count();
         Store::open_with(alloc, engine, count)

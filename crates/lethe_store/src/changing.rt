@@ -6,7 +6,7 @@ ghost use Rattle.lethe_base.specs.declared.refused.Refused.TheVariants.{Stopped}
 ghost use Rattle.lethe_core.specs.Asked.{Makes};
 ghost use Rattle.lethe_engine.specs.ChangeRows.{call_of};
 ghost use Rattle.lethe_turn.specs.Seats.{count_of};
-ghost use Rattle.lethe_store.specs.Desks.{desk_of};
+ghost use Rattle.lethe_store.specs.StoreViews.{store_view};
 ghost use Rattle.lethe_store.specs.Entries.{entries_by};
 ghost use Rattle.lethe_store.specs.Since.{all_counted};
 ghost use Rattle.lethe_store.specs.Reasons.{AreLater, HasReasonOfChange, IsStoppedAt, counts_of};
@@ -42,13 +42,13 @@ impl<D: Disk> Store<D, Changes> {
         value: Value,
     ) -> Result<u64, Refused>
         requires of { session.old.seat.table_id ≡ self.now.turn.table.shared.table_id }
-        requires ready { IsReady all_counted (λ o. desk_of o.engine) session.old.seat.me }
+        requires ready { IsReady all_counted (λ o. store_view o.engine) session.old.seat.me }
         ensures of { (session.new.seat.table_id ≡ session.old.seat.table_id) × (session.new.caller ≡ session.old.caller) }
-        ensures ready { IsReady all_counted (λ o. desk_of o.engine) session.new.seat.me }
+        ensures ready { IsReady all_counted (λ o. store_view o.engine) session.new.seat.me }
         ensures done { HasDone (entries_by session.old.caller (Makes (call.Put key dkey value)) (result_err result)) [] session.old.seat.me.0 session.new.seat.me.0 }
         ensures place { IfOk result (λ place. place ≡ count_of session.new.seat.me.0) }
-        ensures stopped { (at : ℕ) → IsStoppedAt (λ o. desk_of o.engine) session.old.seat.me.0 at → IsErrOf result (Stopped at) }
-        ensures why { IfErr result (HasReasonOfChange D.tells D.ports_fail (λ o. desk_of o.engine) session.new.seat.me.0 (counts_of (D.fetches session.old.port) (D.port_faults session.old.port))
+        ensures stopped { (at : ℕ) → IsStoppedAt (λ o. store_view o.engine) session.old.seat.me.0 at → IsErrOf result (Stopped at) }
+        ensures why { IfErr result (HasReasonOfChange D.tells D.ports_fail (λ o. store_view o.engine) session.new.seat.me.0 (counts_of (D.fetches session.old.port) (D.port_faults session.old.port))
             (counts_of (D.fetches session.new.port) (D.port_faults session.new.port))) }
         ensures counts { AreLater (counts_of (D.fetches session.old.port) (D.port_faults session.old.port)) (counts_of (D.fetches session.new.port) (D.port_faults session.new.port)) }
     {
@@ -68,13 +68,13 @@ impl<D: Disk> Store<D, Changes> {
         key: Key,
     ) -> Result<u64, Refused>
         requires of { session.old.seat.table_id ≡ self.now.turn.table.shared.table_id }
-        requires ready { IsReady all_counted (λ o. desk_of o.engine) session.old.seat.me }
+        requires ready { IsReady all_counted (λ o. store_view o.engine) session.old.seat.me }
         ensures of { (session.new.seat.table_id ≡ session.old.seat.table_id) × (session.new.caller ≡ session.old.caller) }
-        ensures ready { IsReady all_counted (λ o. desk_of o.engine) session.new.seat.me }
+        ensures ready { IsReady all_counted (λ o. store_view o.engine) session.new.seat.me }
         ensures done { HasDone (entries_by session.old.caller (Makes (call.Delete key)) (result_err result)) [] session.old.seat.me.0 session.new.seat.me.0 }
         ensures place { IfOk result (λ place. place ≡ count_of session.new.seat.me.0) }
-        ensures stopped { (at : ℕ) → IsStoppedAt (λ o. desk_of o.engine) session.old.seat.me.0 at → IsErrOf result (Stopped at) }
-        ensures why { IfErr result (HasReasonOfChange D.tells D.ports_fail (λ o. desk_of o.engine) session.new.seat.me.0 (counts_of (D.fetches session.old.port) (D.port_faults session.old.port))
+        ensures stopped { (at : ℕ) → IsStoppedAt (λ o. store_view o.engine) session.old.seat.me.0 at → IsErrOf result (Stopped at) }
+        ensures why { IfErr result (HasReasonOfChange D.tells D.ports_fail (λ o. store_view o.engine) session.new.seat.me.0 (counts_of (D.fetches session.old.port) (D.port_faults session.old.port))
             (counts_of (D.fetches session.new.port) (D.port_faults session.new.port))) }
         ensures counts { AreLater (counts_of (D.fetches session.old.port) (D.port_faults session.old.port)) (counts_of (D.fetches session.new.port) (D.port_faults session.new.port)) }
     {
@@ -94,13 +94,13 @@ impl<D: Disk> Store<D, Changes> {
         range: Range,
     ) -> Result<u64, Refused>
         requires of { session.old.seat.table_id ≡ self.now.turn.table.shared.table_id }
-        requires ready { IsReady all_counted (λ o. desk_of o.engine) session.old.seat.me }
+        requires ready { IsReady all_counted (λ o. store_view o.engine) session.old.seat.me }
         ensures of { (session.new.seat.table_id ≡ session.old.seat.table_id) × (session.new.caller ≡ session.old.caller) }
-        ensures ready { IsReady all_counted (λ o. desk_of o.engine) session.new.seat.me }
+        ensures ready { IsReady all_counted (λ o. store_view o.engine) session.new.seat.me }
         ensures done { HasDone (entries_by session.old.caller (Makes (call.Erase range)) (result_err result)) [] session.old.seat.me.0 session.new.seat.me.0 }
         ensures place { IfOk result (λ place. place ≡ count_of session.new.seat.me.0) }
-        ensures stopped { (at : ℕ) → IsStoppedAt (λ o. desk_of o.engine) session.old.seat.me.0 at → IsErrOf result (Stopped at) }
-        ensures why { IfErr result (HasReasonOfChange D.tells D.ports_fail (λ o. desk_of o.engine) session.new.seat.me.0 (counts_of (D.fetches session.old.port) (D.port_faults session.old.port))
+        ensures stopped { (at : ℕ) → IsStoppedAt (λ o. store_view o.engine) session.old.seat.me.0 at → IsErrOf result (Stopped at) }
+        ensures why { IfErr result (HasReasonOfChange D.tells D.ports_fail (λ o. store_view o.engine) session.new.seat.me.0 (counts_of (D.fetches session.old.port) (D.port_faults session.old.port))
             (counts_of (D.fetches session.new.port) (D.port_faults session.new.port))) }
         ensures counts { AreLater (counts_of (D.fetches session.old.port) (D.port_faults session.old.port)) (counts_of (D.fetches session.new.port) (D.port_faults session.new.port)) }
     {
@@ -116,13 +116,13 @@ impl<D: Disk> Store<D, Changes> {
         asked: Asked,
     ) -> Result<u64, Refused>
         requires of { session.old.seat.table_id ≡ self.now.turn.table.shared.table_id }
-        requires ready { IsReady all_counted (λ o. desk_of o.engine) session.old.seat.me }
+        requires ready { IsReady all_counted (λ o. store_view o.engine) session.old.seat.me }
         ensures of { (session.new.seat.table_id ≡ session.old.seat.table_id) × (session.new.caller ≡ session.old.caller) }
-        ensures ready { IsReady all_counted (λ o. desk_of o.engine) session.new.seat.me }
+        ensures ready { IsReady all_counted (λ o. store_view o.engine) session.new.seat.me }
         ensures done { HasDone (entries_by session.old.caller (Makes (call_of asked)) (result_err result)) [] session.old.seat.me.0 session.new.seat.me.0 }
         ensures place { IfOk result (λ place. place ≡ count_of session.new.seat.me.0) }
-        ensures stopped { (at : ℕ) → IsStoppedAt (λ o. desk_of o.engine) session.old.seat.me.0 at → IsErrOf result (Stopped at) }
-        ensures why { IfErr result (HasReasonOfChange D.tells D.ports_fail (λ o. desk_of o.engine) session.new.seat.me.0 (counts_of (D.fetches session.old.port) (D.port_faults session.old.port))
+        ensures stopped { (at : ℕ) → IsStoppedAt (λ o. store_view o.engine) session.old.seat.me.0 at → IsErrOf result (Stopped at) }
+        ensures why { IfErr result (HasReasonOfChange D.tells D.ports_fail (λ o. store_view o.engine) session.new.seat.me.0 (counts_of (D.fetches session.old.port) (D.port_faults session.old.port))
             (counts_of (D.fetches session.new.port) (D.port_faults session.new.port))) }
         ensures counts { AreLater (counts_of (D.fetches session.old.port) (D.port_faults session.old.port)) (counts_of (D.fetches session.new.port) (D.port_faults session.new.port)) }
     {

@@ -17,9 +17,9 @@ impl<D: Disk, L: Log> Behind for Lent<D, L> {
 
     type Mark = L::Mark;
 
-    ghost use Rattle.lethe_store.specs.Desks.{desk_of};
+    ghost use Rattle.lethe_store.specs.StoreViews.{store_view};
 
-    ghost since = { λ o l m x. L.since D.tells D.ports_fail (desk_of o.engine) l m (desk_of x.engine) };
+    ghost since = { λ o l m x. L.since D.tells D.ports_fail (store_view o.engine) l m (store_view x.engine) };
 
     ghost fits = { L.fits };
 

@@ -3,7 +3,7 @@ ghost use Rattle.std.specs.Prelude.{◌≡◌, [], IfOk, IfErr};
 ghost use Rattle.lethe_base.specs.Read.{Get, Scan, Found};
 ghost use Rattle.lethe_engine.specs.Reads.{listed};
 ghost use Rattle.lethe_turn.specs.Seats.{count_of};
-ghost use Rattle.lethe_store.specs.Desks.{desk_of};
+ghost use Rattle.lethe_store.specs.StoreViews.{store_view};
 ghost use Rattle.lethe_store.specs.Since.{all_counted};
 ghost use Rattle.lethe_store.specs.Reads.{HasRead, HasReadClock, IsClockSeen};
 ghost use Rattle.lethe_store.specs.Reasons.{AreLater, HasReasonOfRead, counts_of};
@@ -39,12 +39,12 @@ impl<D: Disk> Store<D, Changes> {
         key: &Key,
     ) -> Result<Read<Option<(u64, Value)>>, Refused>
         requires of { session.old.seat.table_id ≡ self.now.turn.table.shared.table_id }
-        requires ready { IsReady all_counted (λ o. desk_of o.engine) session.old.seat.me }
+        requires ready { IsReady all_counted (λ o. store_view o.engine) session.old.seat.me }
         ensures of { (session.new.seat.table_id ≡ session.old.seat.table_id) × (session.new.caller ≡ session.old.caller) }
-        ensures ready { IsReady all_counted (λ o. desk_of o.engine) session.new.seat.me }
+        ensures ready { IsReady all_counted (λ o. store_view o.engine) session.new.seat.me }
         ensures done { HasDone [] [] session.old.seat.me.0 session.new.seat.me.0 }
         ensures at { IfOk result (λ read. read.at ≡ count_of session.new.seat.me.0) }
-        ensures answer { IfOk result (λ read. HasRead D.tells (λ o. desk_of o.engine) session.new.seat.me.0 (Get key.now) (Found read.answer)) }
+        ensures answer { IfOk result (λ read. HasRead D.tells (λ o. store_view o.engine) session.new.seat.me.0 (Get key.now) (Found read.answer)) }
         ensures why { IfErr result (HasReasonOfRead D.tells D.ports_fail (counts_of (D.fetches session.old.port) (D.port_faults session.old.port))
             (counts_of (D.fetches session.new.port) (D.port_faults session.new.port))) }
         ensures counts { AreLater (counts_of (D.fetches session.old.port) (D.port_faults session.old.port)) (counts_of (D.fetches session.new.port) (D.port_faults session.new.port)) }
@@ -73,12 +73,12 @@ impl<D: Disk> Store<D, Changes> {
         hi: &Key,
     ) -> Result<Read<Vec<(Key, u64, Value)>>, Refused>
         requires of { session.old.seat.table_id ≡ self.now.turn.table.shared.table_id }
-        requires ready { IsReady all_counted (λ o. desk_of o.engine) session.old.seat.me }
+        requires ready { IsReady all_counted (λ o. store_view o.engine) session.old.seat.me }
         ensures of { (session.new.seat.table_id ≡ session.old.seat.table_id) × (session.new.caller ≡ session.old.caller) }
-        ensures ready { IsReady all_counted (λ o. desk_of o.engine) session.new.seat.me }
+        ensures ready { IsReady all_counted (λ o. store_view o.engine) session.new.seat.me }
         ensures done { HasDone [] [] session.old.seat.me.0 session.new.seat.me.0 }
         ensures at { IfOk result (λ read. read.at ≡ count_of session.new.seat.me.0) }
-        ensures answer { IfOk result (λ read. HasRead D.tells (λ o. desk_of o.engine) session.new.seat.me.0 (Scan lo.now hi.now) (listed read.answer.items)) }
+        ensures answer { IfOk result (λ read. HasRead D.tells (λ o. store_view o.engine) session.new.seat.me.0 (Scan lo.now hi.now) (listed read.answer.items)) }
         ensures why { IfErr result (HasReasonOfRead D.tells D.ports_fail (counts_of (D.fetches session.old.port) (D.port_faults session.old.port))
             (counts_of (D.fetches session.new.port) (D.port_faults session.new.port))) }
         ensures counts { AreLater (counts_of (D.fetches session.old.port) (D.port_faults session.old.port)) (counts_of (D.fetches session.new.port) (D.port_faults session.new.port)) }
@@ -96,13 +96,13 @@ impl<D: Disk> Store<D, Changes> {
     /// What there is of the store as a whole, as `Engine::stat` tells it, in one turn. It takes no memory.
     pub fn stat<R: Wait>(&self, rt: &R, session: &mut Session<D, Changes>) -> Read<Stat>
         requires of { session.old.seat.table_id ≡ self.now.turn.table.shared.table_id }
-        requires ready { IsReady all_counted (λ o. desk_of o.engine) session.old.seat.me }
+        requires ready { IsReady all_counted (λ o. store_view o.engine) session.old.seat.me }
         ensures of { (session.new.seat.table_id ≡ session.old.seat.table_id) × (session.new.caller ≡ session.old.caller) × (session.new.port ≡ session.old.port) }
-        ensures ready { IsReady all_counted (λ o. desk_of o.engine) session.new.seat.me }
+        ensures ready { IsReady all_counted (λ o. store_view o.engine) session.new.seat.me }
         ensures done { HasDone [] [] session.old.seat.me.0 session.new.seat.me.0 }
         ensures at { result.at ≡ count_of session.new.seat.me.0 }
-        ensures clock { HasReadClock D.tells (λ o. desk_of o.engine) session.new.seat.me.0 result.answer.clock }
-        ensures seen { IsClockSeen (λ o. desk_of o.engine) session.new.seat.me.0 result.answer.clock }
+        ensures clock { HasReadClock D.tells (λ o. store_view o.engine) session.new.seat.me.0 result.answer.clock }
+        ensures seen { IsClockSeen (λ o. store_view o.engine) session.new.seat.me.0 result.answer.clock }
     {
         let held = self.take(rt, session);
         let at = self.learn(session, &held);

@@ -3,7 +3,7 @@ ghost use Rattle.std.specs.Prelude.{◌≡◌, ◌+◌, ◌<◌, ◌^◌, [], �
 ghost use Rattle.lethe_core.specs.Running.{IsSound};
 ghost use Rattle.lethe_core.specs.View.{view_of};
 ghost use Rattle.lethe_turn.specs.Seats.{Holds, HasSeenMore, IsFree, Joined, KnowsTheWhole, count_of, entered, passed, passed_noting};
-ghost use Rattle.lethe_store.specs.Desks.{IsSameStore, desk_of};
+ghost use Rattle.lethe_store.specs.StoreViews.{IsSameStore, store_view};
 ghost use Rattle.lethe_store.specs.Sessions.{HasFinished, HasSplit, IsFirst, IsLedTo, IsReady};
 
 use crate::lent::Lent;
@@ -37,9 +37,9 @@ impl<D: Disk, L: Log> Store<D, L> {
         requires count { count ≡ L.start engine.core.state.count }
         requires few { count < 2 ^ 62 }
         ensures of { IfOk result (λ r. (r.1.seat.table_id ≡ r.0.turn.table.shared.table_id) × (r.1.caller ≡ 0) × (D.fetches r.1.port ≡ 0) × (D.port_faults r.1.port ≡ 0)) }
-        ensures ready { IfOk result (λ r. IsReady L.start (λ o. desk_of o.engine) r.1.seat.me) }
-        ensures first { IfOk result (λ r. IsFirst D.tells (λ o. desk_of o.engine) (desk_of engine) count r.1.seat.me) }
-        ensures back { IfErr result (λ r. IsSameStore D.tells (desk_of engine) (desk_of r.0)) }
+        ensures ready { IfOk result (λ r. IsReady L.start (λ o. store_view o.engine) r.1.seat.me) }
+        ensures first { IfOk result (λ r. IsFirst D.tells (λ o. store_view o.engine) (store_view engine) count r.1.seat.me) }
+        ensures back { IfErr result (λ r. IsSameStore D.tells (store_view engine) (store_view r.0)) }
     {
         let Ok(port) = engine.new_port(alloc) else {
             return Err((engine, NoMemory));
@@ -67,11 +67,11 @@ impl<D: Disk, L: Log> Store<D, L> {
     /// Takes the turn, and the store with it. It waits until the sessions that asked before have had theirs.
     pub fn take<R: Wait>(&self, rt: &R, session: &mut Session<D, L>) -> Held<Lent<D, L>>
         requires of { session.old.seat.table_id ≡ self.now.turn.table.shared.table_id }
-        requires ready { IsReady L.start (λ o. desk_of o.engine) session.old.seat.me }
+        requires ready { IsReady L.start (λ o. store_view o.engine) session.old.seat.me }
         ensures of { (session.new.seat.table_id ≡ session.old.seat.table_id) × (session.new.caller ≡ session.old.caller) × (session.new.port ≡ session.old.port) }
         ensures turn { Holds session.new.seat.me result.ticket }
         ensures more { HasSeenMore session.old.seat.me.0 session.new.seat.me.0 }
-        ensures since { IsLedTo (λ o. desk_of o.engine) (L.since D.tells D.ports_fail) session.new.seat.me.0 (desk_of result.value.engine) }
+        ensures since { IsLedTo (λ o. store_view o.engine) (L.since D.tells D.ports_fail) session.new.seat.me.0 (store_view result.value.engine) }
         ensures sound { IsSound D.tells (view_of result.value.engine.core) }
         ensures knows { KnowsTheWhole L.fits session.new.seat.me.0 }
     {
@@ -102,7 +102,7 @@ impl<D: Disk, L: Log> Store<D, L> {
         requires held { Holds session.old.seat.me held.ticket }
         requires number { length said.now.items ≡ number }
         requires room { count_of session.old.seat.me.0 + length said.now.items < 2 ^ 62 }
-        requires since { IsLedTo (λ o. desk_of o.engine) (L.since D.tells D.ports_fail) (passed_noting noted.now.items (entered said.now.items session.old.seat.me.0)) (desk_of held.value.engine) }
+        requires since { IsLedTo (λ o. store_view o.engine) (L.since D.tells D.ports_fail) (passed_noting noted.now.items (entered said.now.items session.old.seat.me.0)) (store_view held.value.engine) }
         requires fits { L.fits session.old.seat.me.0.marks → L.fits (session.old.seat.me.0.marks ++ noted.now.items) }
         ensures of { (session.new.seat.table_id ≡ session.old.seat.table_id) × (session.new.caller ≡ session.old.caller) × (session.new.port ≡ session.old.port) }
         ensures given { session.new.seat.me ≡ (passed_noting noted.now.items (entered said.now.items session.old.seat.me.0), []) }
@@ -115,7 +115,7 @@ impl<D: Disk, L: Log> Store<D, L> {
     pub fn put_back(&self, session: &mut Session<D, L>, held: Held<Lent<D, L>>)
         requires of { session.old.seat.table_id ≡ self.now.turn.table.shared.table_id }
         requires held { Holds session.old.seat.me held.ticket }
-        requires since { IsLedTo (λ o. desk_of o.engine) (L.since D.tells D.ports_fail) session.old.seat.me.0 (desk_of held.value.engine) }
+        requires since { IsLedTo (λ o. store_view o.engine) (L.since D.tells D.ports_fail) session.old.seat.me.0 (store_view held.value.engine) }
         ensures of { (session.new.seat.table_id ≡ session.old.seat.table_id) × (session.new.caller ≡ session.old.caller) × (session.new.port ≡ session.old.port) }
         ensures passed { session.new.seat.me ≡ (passed session.old.seat.me.0, []) }
     {
@@ -136,12 +136,12 @@ impl<D: Disk, L: Log> Store<D, L> {
         caller: u64,
     ) -> Result<Session<D, L>, NoMemory>
         requires of { session.old.seat.table_id ≡ self.now.turn.table.shared.table_id }
-        requires ready { IsReady L.start (λ o. desk_of o.engine) session.old.seat.me }
+        requires ready { IsReady L.start (λ o. store_view o.engine) session.old.seat.me }
         requires parts { 1 < session.old.seat.me.0.parts }
         ensures of { (session.new.seat.table_id ≡ session.old.seat.table_id) × (session.new.caller ≡ session.old.caller) × (session.new.port ≡ session.old.port) }
-        ensures ready { IsReady L.start (λ o. desk_of o.engine) session.new.seat.me }
+        ensures ready { IsReady L.start (λ o. store_view o.engine) session.new.seat.me }
         ensures other_of { IfOk result (λ other. (other.seat.table_id ≡ session.old.seat.table_id) × (other.caller ≡ caller) × (D.fetches other.port ≡ 0) × (D.port_faults other.port ≡ 0)) }
-        ensures other_ready { IfOk result (λ other. IsReady L.start (λ o. desk_of o.engine) other.seat.me) }
+        ensures other_ready { IfOk result (λ other. IsReady L.start (λ o. store_view o.engine) other.seat.me) }
         ensures split { IfOk result (λ other. HasSplit session.old.seat.me.0 session.new.seat.me.0 other.seat.me.0) }
         ensures refused { IfErr result (λ none. HasSeenMore session.old.seat.me.0 session.new.seat.me.0) }
     {
@@ -160,9 +160,9 @@ impl<D: Disk, L: Log> Store<D, L> {
     /// Takes the other session in: what it had seen, its entries and its parts. It takes no memory.
     pub fn join(&self, session: &mut Session<D, L>, other: Session<D, L>)
         requires of { (session.old.seat.table_id ≡ self.now.turn.table.shared.table_id) × (other.seat.table_id ≡ self.now.turn.table.shared.table_id) }
-        requires ready { IsReady L.start (λ o. desk_of o.engine) session.old.seat.me × IsFree other.seat.me }
+        requires ready { IsReady L.start (λ o. store_view o.engine) session.old.seat.me × IsFree other.seat.me }
         ensures of { (session.new.seat.table_id ≡ session.old.seat.table_id) × (session.new.caller ≡ session.old.caller) × (session.new.port ≡ session.old.port) }
-        ensures ready { IsReady L.start (λ o. desk_of o.engine) session.new.seat.me }
+        ensures ready { IsReady L.start (λ o. store_view o.engine) session.new.seat.me }
         ensures joined { Joined session.old.seat.me.0 other.seat.me.0 session.new.seat.me.0 }
     {
         let Session {
@@ -176,9 +176,9 @@ impl<D: Disk, L: Log> Store<D, L> {
     /// Ends the sharing, and gives the store back. It waits for its turn as a call does, and takes no memory.
     pub fn finish<R: Wait>(self, rt: &R, session: Session<D, L>) -> Engine<D>
         requires of { session.seat.table_id ≡ self.turn.table.shared.table_id }
-        requires ready { IsReady L.start (λ o. desk_of o.engine) session.seat.me }
+        requires ready { IsReady L.start (λ o. store_view o.engine) session.seat.me }
         ensures sound { IsSound D.tells (view_of result.core) }
-        ensures finished { HasFinished (λ o. desk_of o.engine) (L.since D.tells D.ports_fail) L.fits session.seat.me.0 (desk_of result) }
+        ensures finished { HasFinished (λ o. store_view o.engine) (L.since D.tells D.ports_fail) L.fits session.seat.me.0 (store_view result) }
     {
         let Store { turn } = self;
         let Session {

@@ -18,7 +18,7 @@ use Rattle.lethe_turn.specs.declared.view.View.{View}
 use Rattle.lethe_turn.proofs.Sums.{total_append}
 use Rattle.lethe_store.specs.declared.entry.Entry.{Entry}
 use Rattle.lethe_store.specs.declared.entry.Mark.{Mark}
-use Rattle.lethe_store.specs.Desks.{Desk, IsSameStore}
+use Rattle.lethe_store.specs.StoreViews.{StoreView, IsSameStore}
 use Rattle.lethe_store.specs.Entries.{entries_by, entry_of}
 use Rattle.lethe_store.specs.Laws.{since_opened, since_same}
 use Rattle.lethe_store.specs.Sessions.{HasDone, HasFinished, HasSplit}
@@ -52,7 +52,7 @@ stood : (start : ℕ) (history : List Entry) (caller : ℕ) (call : Call) (resul
 stood start history caller call (Ok told) place stand is = (stand.0.0, is ∙ stand.0.1, stand.0.2)
 stood start history caller call (Err why) place stand is = tt
 
-module _ {V : Type 0} (Tells PortsFail : Type 0) (see : V → Desk) (handed x : Desk) (sound : IsSound Tells handed.view) (o : V) (same : IsSameStore Tells handed (see o)) (u v w left right z : Knows V)
+module _ {V : Type 0} (Tells PortsFail : Type 0) (see : V → StoreView) (handed x : StoreView) (sound : IsSound Tells handed.view) (o : V) (same : IsSameStore Tells handed (see o)) (u v w left right z : Knows V)
     (opened : u ≡ first_view o handed.view.state.count) (split : HasSplit u v w) (a b : Call) (one other : Result ℕ Refused) (did : HasDone (entries_by 0 (Makes a) (result_err one)) [] v left)
     (did_other : HasDone (entries_by 1 (Makes b) (result_err other)) [] w right) (place : IfOk one (λ place. place ≡ count_of left)) (place_other : IfOk other (λ place. place ≡ count_of right))
     (joined : Joined left right z) (finished : HasFinished see (Since Tells PortsFail) AnyMarks z x) where

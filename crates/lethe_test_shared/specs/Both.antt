@@ -13,7 +13,7 @@ use Rattle.lethe_core.specs.Asked.{Makes}
 use Rattle.lethe_engine.specs.StandsFor.{Opened, StandsFor}
 use Rattle.lethe_turn.specs.Lists.{WeighsAs}
 use Rattle.lethe_store.specs.declared.entry.Entry.{Entry}
-use Rattle.lethe_store.specs.Desks.{Desk}
+use Rattle.lethe_store.specs.StoreViews.{StoreView}
 use Rattle.lethe_store.specs.Entries.{changes_of, entries_by, entry_of}
 
 -- where a place was answered, the entry stands there, behind so many changes
@@ -23,7 +23,7 @@ StoodAt start entries entry (Err why) = Unit {0}
 
 -- There are entries, by which the store came of the one that was handed in: those of the two changes by callers 0 and 1, in some order, each once, and one that was done at the place that was
 -- answered. The store counts them, and stands for whatever the one handed in stood for with them.
-pub record AreInOneHistory (Tells : Type 0) (handed : Desk) (first : Call) (one : Result ℕ Refused) (second : Call) (other : Result ℕ Refused) (x : Desk) : Type 0 where
+pub record AreInOneHistory (Tells : Type 0) (handed : StoreView) (first : Call) (one : Result ℕ Refused) (second : Call) (other : Result ℕ Refused) (x : StoreView) : Type 0 where
   pub entries : List Entry
   pub each : WeighsAs entries (entries_by 0 (Makes first) (result_err one) ++ entries_by 1 (Makes second) (result_err other))
   pub first_at : StoodAt handed.view.state.count entries (entry_of 0 Done first) one

@@ -2,7 +2,7 @@
 ghost use Rattle.std.specs.Prelude.{◌≡◌, IfOk};
 ghost use Rattle.lethe_core.specs.Running.{IsSound};
 ghost use Rattle.lethe_core.specs.View.{view_of};
-ghost use Rattle.lethe_store.specs.Desks.{desk_of};
+ghost use Rattle.lethe_store.specs.StoreViews.{store_view};
 ghost use Rattle.lethe_store.specs.Since.{all_counted};
 ghost use Rattle.lethe_store.specs.Sessions.{IsReady};
 
@@ -60,7 +60,7 @@ pub(crate) fn shared<D: Disk>(
 ) -> (Shared<D>, Caller<D>)
     requires { IsSound D.tells (view_of engine.core) }
     ensures of { result.1.seat.table_id ≡ result.0.turn.table.shared.table_id }
-    ensures ready { IsReady all_counted (λ o. desk_of o.engine) result.1.seat.me }
+    ensures ready { IsReady all_counted (λ o. store_view o.engine) result.1.seat.me }
     ensures parts { result.1.seat.me.0.parts ≡ 4611686018427387904 }
 {
     match Store::open(alloc, engine) {

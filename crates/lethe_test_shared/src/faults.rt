@@ -2,7 +2,7 @@
 ghost use Rattle.std.specs.Prelude.{◌≡◌};
 ghost use Rattle.lethe_core.specs.Running.{IsSound};
 ghost use Rattle.lethe_core.specs.View.{view_of};
-ghost use Rattle.lethe_store.specs.Desks.{desk_of};
+ghost use Rattle.lethe_store.specs.StoreViews.{store_view};
 ghost use Rattle.lethe_store.specs.Since.{all_counted};
 ghost use Rattle.lethe_store.specs.Sessions.{IsReady};
 
@@ -23,9 +23,9 @@ fn put<D: Disk, R: Wait + Abort>(
     text: &str,
 ) -> Result<u64, Refused>
     requires of { session.old.seat.table_id ≡ store.now.turn.table.shared.table_id }
-    requires ready { IsReady all_counted (λ o. desk_of o.engine) session.old.seat.me }
+    requires ready { IsReady all_counted (λ o. store_view o.engine) session.old.seat.me }
     ensures of { session.new.seat.table_id ≡ session.old.seat.table_id }
-    ensures ready { IsReady all_counted (λ o. desk_of o.engine) session.new.seat.me }
+    ensures ready { IsReady all_counted (λ o. store_view o.engine) session.new.seat.me }
 {
     let (key, value) = (key_of(alloc, rt, text), value_of(alloc, rt, text));
     store.put(rt, alloc, session, key, 7, value)
@@ -40,9 +40,9 @@ fn get<D: Disk, R: Wait + Abort>(
     text: &str,
 ) -> Option<u64>
     requires of { session.old.seat.table_id ≡ store.now.turn.table.shared.table_id }
-    requires ready { IsReady all_counted (λ o. desk_of o.engine) session.old.seat.me }
+    requires ready { IsReady all_counted (λ o. store_view o.engine) session.old.seat.me }
     ensures of { session.new.seat.table_id ≡ session.old.seat.table_id }
-    ensures ready { IsReady all_counted (λ o. desk_of o.engine) session.new.seat.me }
+    ensures ready { IsReady all_counted (λ o. store_view o.engine) session.new.seat.me }
 {
     match store.get(rt, alloc, session, &key_of(alloc, rt, text)) {
         Ok(read) => {
@@ -70,9 +70,9 @@ fn puts_to_the_fault<D: Disk, R: Wait + Abort>(
     session: &mut Caller<D>,
 ) -> u64
     requires of { session.old.seat.table_id ≡ store.now.turn.table.shared.table_id }
-    requires ready { IsReady all_counted (λ o. desk_of o.engine) session.old.seat.me }
+    requires ready { IsReady all_counted (λ o. store_view o.engine) session.old.seat.me }
     ensures of { session.new.seat.table_id ≡ session.old.seat.table_id }
-    ensures ready { IsReady all_counted (λ o. desk_of o.engine) session.new.seat.me }
+    ensures ready { IsReady all_counted (λ o. store_view o.engine) session.new.seat.me }
 {
     for place in 1..100 {
         match put(alloc, rt, store, session, "a") {

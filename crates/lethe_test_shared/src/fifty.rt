@@ -2,7 +2,7 @@
 ghost use Rattle.std.specs.Prelude.{◌≡◌};
 ghost use Rattle.lethe_core.specs.Running.{IsSound};
 ghost use Rattle.lethe_core.specs.View.{view_of};
-ghost use Rattle.lethe_store.specs.Desks.{desk_of};
+ghost use Rattle.lethe_store.specs.StoreViews.{store_view};
 ghost use Rattle.lethe_store.specs.Since.{all_counted};
 ghost use Rattle.lethe_store.specs.Sessions.{IsReady};
 
@@ -39,9 +39,9 @@ fn put_and_get<D: Disk, R: Wait + Abort>(
     number: u8,
 ) -> u64
     requires of { session.old.seat.table_id ≡ store.now.turn.table.shared.table_id }
-    requires ready { IsReady all_counted (λ o. desk_of o.engine) session.old.seat.me }
+    requires ready { IsReady all_counted (λ o. store_view o.engine) session.old.seat.me }
     ensures of { session.new.seat.table_id ≡ session.old.seat.table_id }
-    ensures ready { IsReady all_counted (λ o. desk_of o.engine) session.new.seat.me }
+    ensures ready { IsReady all_counted (λ o. store_view o.engine) session.new.seat.me }
 {
     let value = value_at(alloc, rt, name, number);
     let put = store.put(
@@ -73,9 +73,9 @@ fn fifty<D: Disk, R: Wait + Abort>(
     name: u8,
 ) -> (Caller<D>, Vec<u64>)
     requires of { session.seat.table_id ≡ store.now.turn.table.shared.table_id }
-    requires ready { IsReady all_counted (λ o. desk_of o.engine) session.seat.me }
+    requires ready { IsReady all_counted (λ o. store_view o.engine) session.seat.me }
     ensures of { result.0.seat.table_id ≡ session.seat.table_id }
-    ensures ready { IsReady all_counted (λ o. desk_of o.engine) result.0.seat.me }
+    ensures ready { IsReady all_counted (λ o. store_view o.engine) result.0.seat.me }
 {
     let mut places = Vec::new(alloc);
     for number in 0..50 {
@@ -94,19 +94,19 @@ fn beside<D: Disk, R: Threads + Wait + Abort + Sync>(
     other: Caller<D>,
 ) -> ((Caller<D>, Vec<u64>), (Caller<D>, Vec<u64>))
     requires of { (one.seat.table_id ≡ store.now.turn.table.shared.table_id) × (other.seat.table_id ≡ store.now.turn.table.shared.table_id) }
-    requires ready { IsReady all_counted (λ o. desk_of o.engine) one.seat.me × IsReady all_counted (λ o. desk_of o.engine) other.seat.me }
+    requires ready { IsReady all_counted (λ o. store_view o.engine) one.seat.me × IsReady all_counted (λ o. store_view o.engine) other.seat.me }
     ensures of { (result.0.0.seat.table_id ≡ store.now.turn.table.shared.table_id) × (result.1.0.seat.table_id ≡ store.now.turn.table.shared.table_id) }
-    ensures ready { IsReady all_counted (λ o. desk_of o.engine) result.0.0.seat.me × IsReady all_counted (λ o. desk_of o.engine) result.1.0.seat.me }
+    ensures ready { IsReady all_counted (λ o. store_view o.engine) result.0.0.seat.me × IsReady all_counted (λ o. store_view o.engine) result.1.0.seat.me }
 {
     join(
         rt,
         move || -> (Caller<D>, Vec<u64>)
-            requires { (one.seat.table_id ≡ store.now.turn.table.shared.table_id) × IsReady all_counted (λ o. desk_of o.engine) one.seat.me }
-            ensures { (result.0.seat.table_id ≡ one.seat.table_id) × IsReady all_counted (λ o. desk_of o.engine) result.0.seat.me }
+            requires { (one.seat.table_id ≡ store.now.turn.table.shared.table_id) × IsReady all_counted (λ o. store_view o.engine) one.seat.me }
+            ensures { (result.0.seat.table_id ≡ one.seat.table_id) × IsReady all_counted (λ o. store_view o.engine) result.0.seat.me }
         { fifty(alloc, rt, store, one, 1) },
         move || -> (Caller<D>, Vec<u64>)
-            requires { (other.seat.table_id ≡ store.now.turn.table.shared.table_id) × IsReady all_counted (λ o. desk_of o.engine) other.seat.me }
-            ensures { (result.0.seat.table_id ≡ other.seat.table_id) × IsReady all_counted (λ o. desk_of o.engine) result.0.seat.me }
+            requires { (other.seat.table_id ≡ store.now.turn.table.shared.table_id) × IsReady all_counted (λ o. store_view o.engine) other.seat.me }
+            ensures { (result.0.seat.table_id ≡ other.seat.table_id) × IsReady all_counted (λ o. store_view o.engine) result.0.seat.me }
         { fifty(alloc, rt, store, other, 2) },
     )
 }

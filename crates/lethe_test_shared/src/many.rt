@@ -2,7 +2,7 @@
 ghost use Rattle.std.specs.Prelude.{◌≡◌, ◌≤◌, IfOk};
 ghost use Rattle.lethe_core.specs.Running.{IsSound};
 ghost use Rattle.lethe_core.specs.View.{view_of};
-ghost use Rattle.lethe_store.specs.Desks.{desk_of};
+ghost use Rattle.lethe_store.specs.StoreViews.{store_view};
 ghost use Rattle.lethe_store.specs.Sessions.{IsReady};
 ghost use Rattle.lethe_store.specs.Since.{all_counted};
 
@@ -30,9 +30,9 @@ fn put_number<D: Disk, R: Wait>(
     number: u64,
 ) -> u64
     requires of { session.old.seat.table_id ≡ store.now.turn.table.shared.table_id }
-    requires ready { IsReady all_counted (λ o. desk_of o.engine) session.old.seat.me }
+    requires ready { IsReady all_counted (λ o. store_view o.engine) session.old.seat.me }
     ensures of { session.new.seat.table_id ≡ session.old.seat.table_id }
-    ensures ready { IsReady all_counted (λ o. desk_of o.engine) session.new.seat.me }
+    ensures ready { IsReady all_counted (λ o. store_view o.engine) session.new.seat.me }
     ensures parts { session.new.seat.me.0.parts ≡ session.old.seat.me.0.parts }
     ensures few { result ≤ 1 }
 {
@@ -56,10 +56,10 @@ pub fn put_each<D: Disk, R: Wait>(
     count: u64,
 ) -> u64
     requires of { session.old.seat.table_id ≡ store.now.turn.table.shared.table_id }
-    requires ready { IsReady all_counted (λ o. desk_of o.engine) session.old.seat.me }
+    requires ready { IsReady all_counted (λ o. store_view o.engine) session.old.seat.me }
     requires parts { count ≤ session.old.seat.me.0.parts }
     ensures of { session.new.seat.table_id ≡ session.old.seat.table_id }
-    ensures ready { IsReady all_counted (λ o. desk_of o.engine) session.new.seat.me }
+    ensures ready { IsReady all_counted (λ o. store_view o.engine) session.new.seat.me }
     ensures parts { session.new.seat.me.0.parts ≡ session.old.seat.me.0.parts }
     ensures few { result ≤ count }
 {

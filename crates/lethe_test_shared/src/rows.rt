@@ -1,6 +1,6 @@
 //! Sessions one after another, in one thread.
 ghost use Rattle.std.specs.Prelude.{◌≡◌};
-ghost use Rattle.lethe_store.specs.Desks.{desk_of};
+ghost use Rattle.lethe_store.specs.StoreViews.{store_view};
 ghost use Rattle.lethe_store.specs.Since.{all_counted};
 ghost use Rattle.lethe_store.specs.Sessions.{IsReady};
 
@@ -22,9 +22,9 @@ fn puts_at<D: Disk, R: Wait + Abort>(
     place: u64,
 )
     requires of { session.old.seat.table_id ≡ store.now.turn.table.shared.table_id }
-    requires ready { IsReady all_counted (λ o. desk_of o.engine) session.old.seat.me }
+    requires ready { IsReady all_counted (λ o. store_view o.engine) session.old.seat.me }
     ensures of { session.new.seat.table_id ≡ session.old.seat.table_id }
-    ensures ready { IsReady all_counted (λ o. desk_of o.engine) session.new.seat.me }
+    ensures ready { IsReady all_counted (λ o. store_view o.engine) session.new.seat.me }
     ensures parts { session.new.seat.me.0.parts ≡ session.old.seat.me.0.parts }
 {
     let (key, value) = (key_of(alloc, rt, put.0), value_of(alloc, rt, put.1));
@@ -42,9 +42,9 @@ fn has_at<D: Disk, R: Wait + Abort>(
     at: u64,
 )
     requires of { session.old.seat.table_id ≡ store.now.turn.table.shared.table_id }
-    requires ready { IsReady all_counted (λ o. desk_of o.engine) session.old.seat.me }
+    requires ready { IsReady all_counted (λ o. store_view o.engine) session.old.seat.me }
     ensures of { session.new.seat.table_id ≡ session.old.seat.table_id }
-    ensures ready { IsReady all_counted (λ o. desk_of o.engine) session.new.seat.me }
+    ensures ready { IsReady all_counted (λ o. store_view o.engine) session.new.seat.me }
     ensures parts { session.new.seat.me.0.parts ≡ session.old.seat.me.0.parts }
 {
     let key = key_of(alloc, rt, put.0);
@@ -58,9 +58,9 @@ fn has_at<D: Disk, R: Wait + Abort>(
 /// Puts ten keys, the first changes of the store.
 fn ten<D: Disk, R: Wait + Abort>(alloc: Global, rt: &R, store: &Shared<D>, session: &mut Caller<D>)
     requires of { session.old.seat.table_id ≡ store.now.turn.table.shared.table_id }
-    requires ready { IsReady all_counted (λ o. desk_of o.engine) session.old.seat.me }
+    requires ready { IsReady all_counted (λ o. store_view o.engine) session.old.seat.me }
     ensures of { session.new.seat.table_id ≡ session.old.seat.table_id }
-    ensures ready { IsReady all_counted (λ o. desk_of o.engine) session.new.seat.me }
+    ensures ready { IsReady all_counted (λ o. store_view o.engine) session.new.seat.me }
     ensures parts { session.new.seat.me.0.parts ≡ session.old.seat.me.0.parts }
 {
     let rows = [

@@ -2,7 +2,7 @@
 ghost use Rattle.std.specs.Prelude.{◌≡◌};
 ghost use Rattle.lethe_core.specs.Running.{IsSound};
 ghost use Rattle.lethe_core.specs.View.{view_of};
-ghost use Rattle.lethe_store.specs.Desks.{desk_of};
+ghost use Rattle.lethe_store.specs.StoreViews.{store_view};
 ghost use Rattle.lethe_store.specs.Since.{all_counted};
 ghost use Rattle.lethe_store.specs.Sessions.{IsReady};
 
@@ -76,9 +76,9 @@ fn puts<D: Disk, R: Wait + Abort>(
     mut session: Caller<D>,
 ) -> Caller<D>
     requires of { session.seat.table_id ≡ store.now.turn.table.shared.table_id }
-    requires ready { IsReady all_counted (λ o. desk_of o.engine) session.seat.me }
+    requires ready { IsReady all_counted (λ o. store_view o.engine) session.seat.me }
     ensures of { result.seat.table_id ≡ session.seat.table_id }
-    ensures ready { IsReady all_counted (λ o. desk_of o.engine) result.seat.me }
+    ensures ready { IsReady all_counted (λ o. store_view o.engine) result.seat.me }
 {
     for number in BEFORE..BEFORE + BESIDE {
         let (key, value) = (key_at(alloc, rt, number), value_at(alloc, rt, number));
@@ -96,9 +96,9 @@ fn scans<D: Disk, R: Wait + Abort>(
     mut session: Caller<D>,
 ) -> Caller<D>
     requires of { session.seat.table_id ≡ store.now.turn.table.shared.table_id }
-    requires ready { IsReady all_counted (λ o. desk_of o.engine) session.seat.me }
+    requires ready { IsReady all_counted (λ o. store_view o.engine) session.seat.me }
     ensures of { result.seat.table_id ≡ session.seat.table_id }
-    ensures ready { IsReady all_counted (λ o. desk_of o.engine) result.seat.me }
+    ensures ready { IsReady all_counted (λ o. store_view o.engine) result.seat.me }
 {
     let (lo, hi) = (key_at(alloc, rt, 0), key_at(alloc, rt, 255));
     for _ in 0..30 {
@@ -129,19 +129,19 @@ fn beside<D: Disk, R: Threads + Wait + Abort + Sync>(
     other: Caller<D>,
 ) -> (Caller<D>, Caller<D>)
     requires of { (one.seat.table_id ≡ store.now.turn.table.shared.table_id) × (other.seat.table_id ≡ store.now.turn.table.shared.table_id) }
-    requires ready { IsReady all_counted (λ o. desk_of o.engine) one.seat.me × IsReady all_counted (λ o. desk_of o.engine) other.seat.me }
+    requires ready { IsReady all_counted (λ o. store_view o.engine) one.seat.me × IsReady all_counted (λ o. store_view o.engine) other.seat.me }
     ensures of { (result.0.seat.table_id ≡ store.now.turn.table.shared.table_id) × (result.1.seat.table_id ≡ store.now.turn.table.shared.table_id) }
-    ensures ready { IsReady all_counted (λ o. desk_of o.engine) result.0.seat.me × IsReady all_counted (λ o. desk_of o.engine) result.1.seat.me }
+    ensures ready { IsReady all_counted (λ o. store_view o.engine) result.0.seat.me × IsReady all_counted (λ o. store_view o.engine) result.1.seat.me }
 {
     join(
         rt,
         move || -> Caller<D>
-            requires { (one.seat.table_id ≡ store.now.turn.table.shared.table_id) × IsReady all_counted (λ o. desk_of o.engine) one.seat.me }
-            ensures { (result.seat.table_id ≡ one.seat.table_id) × IsReady all_counted (λ o. desk_of o.engine) result.seat.me }
+            requires { (one.seat.table_id ≡ store.now.turn.table.shared.table_id) × IsReady all_counted (λ o. store_view o.engine) one.seat.me }
+            ensures { (result.seat.table_id ≡ one.seat.table_id) × IsReady all_counted (λ o. store_view o.engine) result.seat.me }
         { puts(alloc, rt, store, one) },
         move || -> Caller<D>
-            requires { (other.seat.table_id ≡ store.now.turn.table.shared.table_id) × IsReady all_counted (λ o. desk_of o.engine) other.seat.me }
-            ensures { (result.seat.table_id ≡ other.seat.table_id) × IsReady all_counted (λ o. desk_of o.engine) result.seat.me }
+            requires { (other.seat.table_id ≡ store.now.turn.table.shared.table_id) × IsReady all_counted (λ o. store_view o.engine) other.seat.me }
+            ensures { (result.seat.table_id ≡ other.seat.table_id) × IsReady all_counted (λ o. store_view o.engine) result.seat.me }
         { scans(alloc, rt, store, other) },
     )
 }

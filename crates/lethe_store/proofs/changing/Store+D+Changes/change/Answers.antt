@@ -3,7 +3,7 @@ use Rattle.std.specs.Prelude.{IfErr}
 use Rattle.std.specs.Result.{result_err}
 use Rattle.lethe_core.specs.View.{view_of}
 use Rattle.lethe_engine.specs.ChangeRows.{call_of}
-use Rattle.lethe_store.specs.Desks.{desk_of}
+use Rattle.lethe_store.specs.StoreViews.{store_view}
 use Rattle.lethe_store.specs.Entries.{entries_by, entries_of}
 use Rattle.lethe_store.specs.Reasons.{HasReasonOfChange, counts_of}
 use Rattle.lethe_core.specs.Asked.{Makes}
@@ -21,7 +21,7 @@ pub give-requires-clause-room : goal.give-requires-clause-room
 give-requires-clause-room g c κs within =
     let old = c.take-held.result.value.engine in
     let new = c.make-answer.new.engine in
-    room_behind g.D.Disk.tells g.D.Disk.ports_fail (λ o. desk_of o.engine) c.args.session.now.seat.me.0 c.take-held.new.session.seat.me.0 (desk_of old) (desk_of new) c.args.session.now.caller (call_of c.args.asked)
+    room_behind g.D.Disk.tells g.D.Disk.ports_fail (λ o. store_view o.engine) c.args.session.now.seat.me.0 c.take-held.new.session.seat.me.0 (store_view old) (store_view new) c.args.session.now.caller (call_of c.args.asked)
     (result_err c.make-answer.result) c.take-held.ensures.more c.take-held.ensures.since
     c.told_entries-said.result.items c.told_call-call.result.items c.did_of-did.result c.list-none.result.items
     (c.told_entries-said.ensures ∙ ap (λ n. entries_of n c.told_call-call.result.items c.did_of-did.result) c.take-held.ensures.of.1) c.told_call-call.ensures (c.did_of-did.ensures (call_of c.args.asked)) c.list-none.ensures
@@ -33,7 +33,7 @@ pub give-requires-clause-since : goal.give-requires-clause-since
 give-requires-clause-since g c κs within =
     let old = c.take-held.result.value.engine in
     let new = c.make-answer.new.engine in
-    leads_behind g.D.Disk.tells g.D.Disk.ports_fail (λ o. desk_of o.engine) c.args.session.now.seat.me.0 c.take-held.new.session.seat.me.0 (desk_of old) (desk_of new) c.args.session.now.caller (call_of c.args.asked)
+    leads_behind g.D.Disk.tells g.D.Disk.ports_fail (λ o. store_view o.engine) c.args.session.now.seat.me.0 c.take-held.new.session.seat.me.0 (store_view old) (store_view new) c.args.session.now.caller (call_of c.args.asked)
     (result_err c.make-answer.result) c.take-held.ensures.more c.take-held.ensures.since
     c.told_entries-said.result.items c.told_call-call.result.items c.did_of-did.result c.list-none.result.items
     (c.told_entries-said.ensures ∙ ap (λ n. entries_of n c.told_call-call.result.items c.did_of-did.result) c.take-held.ensures.of.1) c.told_call-call.ensures (c.did_of-did.ensures (call_of c.args.asked)) c.list-none.ensures
@@ -43,7 +43,7 @@ give-requires-clause-since g c κs within =
 
 pub returns-clause-ready : goal.returns-clause-ready
 returns-clause-ready g c =
-    ready_after all_counted (λ o. desk_of o.engine) c.args.session.now.seat.me c.take-held.new.session.seat.me.0 c.give.new.session.seat.me c.told_entries-said.result.items c.list-none.result.items
+    ready_after all_counted (λ o. store_view o.engine) c.args.session.now.seat.me c.take-held.new.session.seat.me.0 c.give.new.session.seat.me c.told_entries-said.result.items c.list-none.result.items
     c.requires.ready c.take-held.ensures.more c.give.ensures.given
 
 pub returns-clause-done : goal.returns-clause-done
@@ -52,7 +52,7 @@ returns-clause-done g c =
     let w = c.take-held.new.session.seat.me.0 in
     let x = c.give.new.session.seat.me.0 in
     done_so v w x (entries_by c.args.session.now.caller (Makes (call_of c.args.asked)) (result_err c.make-answer.result)) [] c.take-held.ensures.more
-    (knows_made g.D.Disk.tells g.D.Disk.ports_fail (λ o. desk_of o.engine) v w (desk_of c.take-held.result.value.engine) (desk_of c.make-answer.new.engine) c.args.session.now.caller (call_of c.args.asked)
+    (knows_made g.D.Disk.tells g.D.Disk.ports_fail (λ o. store_view o.engine) v w (store_view c.take-held.result.value.engine) (store_view c.make-answer.new.engine) c.args.session.now.caller (call_of c.args.asked)
     (result_err c.make-answer.result) c.take-held.ensures.more c.take-held.ensures.since x
     c.told_entries-said.result.items c.told_call-call.result.items c.did_of-did.result c.list-none.result.items
     (c.told_entries-said.ensures ∙ ap (λ n. entries_of n c.told_call-call.result.items c.did_of-did.result) c.take-held.ensures.of.1) c.told_call-call.ensures (c.did_of-did.ensures (call_of c.args.asked)) c.list-none.ensures
@@ -63,9 +63,9 @@ returns-clause-place g c =
     let v = c.args.session.now.seat.me.0 in
     let w = c.take-held.new.session.seat.me.0 in
     let x = c.give.new.session.seat.me.0 in
-    placed_at g.D.Disk.tells g.D.Disk.ports_fail (λ o. desk_of o.engine) v w x (desk_of c.take-held.result.value.engine) c.args.session.now.caller (call_of c.args.asked) c.make-answer.result c.requires.ready.1
+    placed_at g.D.Disk.tells g.D.Disk.ports_fail (λ o. store_view o.engine) v w x (store_view c.take-held.result.value.engine) c.args.session.now.caller (call_of c.args.asked) c.make-answer.result c.requires.ready.1
     c.take-held.ensures.more c.take-held.ensures.since c.make-answer.ensures.place
-    (knows_made g.D.Disk.tells g.D.Disk.ports_fail (λ o. desk_of o.engine) v w (desk_of c.take-held.result.value.engine) (desk_of c.make-answer.new.engine) c.args.session.now.caller (call_of c.args.asked)
+    (knows_made g.D.Disk.tells g.D.Disk.ports_fail (λ o. store_view o.engine) v w (store_view c.take-held.result.value.engine) (store_view c.make-answer.new.engine) c.args.session.now.caller (call_of c.args.asked)
     (result_err c.make-answer.result) c.take-held.ensures.more c.take-held.ensures.since x
     c.told_entries-said.result.items c.told_call-call.result.items c.did_of-did.result c.list-none.result.items
     (c.told_entries-said.ensures ∙ ap (λ n. entries_of n c.told_call-call.result.items c.did_of-did.result) c.take-held.ensures.of.1) c.told_call-call.ensures (c.did_of-did.ensures (call_of c.args.asked)) c.list-none.ensures
@@ -73,7 +73,7 @@ returns-clause-place g c =
 
 pub returns-clause-stopped : goal.returns-clause-stopped
 returns-clause-stopped g c = λ at stopped.
-    c.make-answer.ensures.stopped at (stopped_before g.D.Disk.tells g.D.Disk.ports_fail (λ o. desk_of o.engine) c.args.session.now.seat.me.0 c.take-held.new.session.seat.me.0 (desk_of c.take-held.result.value.engine) at
+    c.make-answer.ensures.stopped at (stopped_before g.D.Disk.tells g.D.Disk.ports_fail (λ o. store_view o.engine) c.args.session.now.seat.me.0 c.take-held.new.session.seat.me.0 (store_view c.take-held.result.value.engine) at
     c.requires.ready.1 c.take-held.ensures.more c.take-held.ensures.since stopped)
 
 pub returns-clause-why : goal.returns-clause-why
@@ -84,14 +84,14 @@ returns-clause-why g c =
     let result = c.make-answer.result in
     let first = c.take-held.new.session.port in
     let last = c.make-answer.new.port in
-    subst (λ p. IfErr result (HasReasonOfChange g.D.Disk.tells g.D.Disk.ports_fail (λ o. desk_of o.engine) x (counts_of (g.D.Disk.fetches p) (g.D.Disk.port_faults p))
+    subst (λ p. IfErr result (HasReasonOfChange g.D.Disk.tells g.D.Disk.ports_fail (λ o. store_view o.engine) x (counts_of (g.D.Disk.fetches p) (g.D.Disk.port_faults p))
     (counts_of (g.D.Disk.fetches c.give.new.session.port) (g.D.Disk.port_faults c.give.new.session.port)))) c.take-held.ensures.of.2
-    (subst (λ p. IfErr result (HasReasonOfChange g.D.Disk.tells g.D.Disk.ports_fail (λ o. desk_of o.engine) x (counts_of (g.D.Disk.fetches first) (g.D.Disk.port_faults first))
+    (subst (λ p. IfErr result (HasReasonOfChange g.D.Disk.tells g.D.Disk.ports_fail (λ o. store_view o.engine) x (counts_of (g.D.Disk.fetches first) (g.D.Disk.port_faults first))
     (counts_of (g.D.Disk.fetches p) (g.D.Disk.port_faults p)))) (sym c.give.ensures.of.2)
-    (reason_behind g.D.Disk.tells g.D.Disk.ports_fail (λ o. desk_of o.engine) v w x (desk_of c.take-held.result.value.engine) (desk_of c.make-answer.new.engine) c.args.session.now.caller (call_of c.args.asked)
+    (reason_behind g.D.Disk.tells g.D.Disk.ports_fail (λ o. store_view o.engine) v w x (store_view c.take-held.result.value.engine) (store_view c.make-answer.new.engine) c.args.session.now.caller (call_of c.args.asked)
     c.requires.ready.1 c.take-held.ensures.more c.take-held.ensures.since (counts_of (g.D.Disk.fetches first) (g.D.Disk.port_faults first)) (counts_of (g.D.Disk.fetches last) (g.D.Disk.port_faults last))
     result c.make-answer.ensures.why c.make-answer.ensures.damaged
-    (knows_made g.D.Disk.tells g.D.Disk.ports_fail (λ o. desk_of o.engine) v w (desk_of c.take-held.result.value.engine) (desk_of c.make-answer.new.engine) c.args.session.now.caller (call_of c.args.asked)
+    (knows_made g.D.Disk.tells g.D.Disk.ports_fail (λ o. store_view o.engine) v w (store_view c.take-held.result.value.engine) (store_view c.make-answer.new.engine) c.args.session.now.caller (call_of c.args.asked)
     (result_err result) c.take-held.ensures.more c.take-held.ensures.since x
     c.told_entries-said.result.items c.told_call-call.result.items c.did_of-did.result c.list-none.result.items
     (c.told_entries-said.ensures ∙ ap (λ n. entries_of n c.told_call-call.result.items c.did_of-did.result) c.take-held.ensures.of.1) c.told_call-call.ensures (c.did_of-did.ensures (call_of c.args.asked)) c.list-none.ensures

@@ -2,7 +2,7 @@ use Rattle.std.proofs.Common.{◌≡◌, [], sym, ap, ◌∙◌, subst}
 use Rattle.lethe_base.specs.History.{after}
 use Rattle.lethe_base.specs.Read.{Scan, answer}
 use Rattle.lethe_engine.specs.Reads.{listed}
-use Rattle.lethe_store.specs.Desks.{desk_of}
+use Rattle.lethe_store.specs.StoreViews.{store_view}
 use Rattle.lethe_store.specs.Reasons.{HasReasonOfRead, counts_of}
 use Rattle.lethe_store.specs.Since.{all_counted}
 use Rattle.lethe_turn.specs.Seats.{passed}
@@ -12,7 +12,7 @@ use Rattle.lethe_store.proofs.reading.Store+D+Changes.scan.Goals as goal
 
 pub returns-in-Ok-clause-ready : goal.returns-in-Ok-clause-ready
 returns-in-Ok-clause-ready g c =
-    looked_ready all_counted (λ o. desk_of o.engine) c.args.session.now.seat.me c.take-held.new.session.seat.me.0 c.put_back.new.session.seat.me c.requires.ready c.take-held.ensures.more
+    looked_ready all_counted (λ o. store_view o.engine) c.args.session.now.seat.me c.take-held.new.session.seat.me.0 c.put_back.new.session.seat.me c.requires.ready c.take-held.ensures.more
     (c.put_back.ensures.passed ∙ ap (λ m. (passed m.0, [])) c.learn-at.ensures.same)
 
 pub returns-in-Ok-clause-done : goal.returns-in-Ok-clause-done
@@ -24,14 +24,14 @@ pub returns-in-Ok-clause-answer : goal.returns-in-Ok-clause-answer
 returns-in-Ok-clause-answer g c =
     let w = c.take-held.new.session.seat.me.0 in
     let x = c.put_back.new.session.seat.me.0 in
-    let desk = desk_of c.take-held.result.value.engine in
-    read_at g.D.Disk.tells g.D.Disk.ports_fail (λ o. desk_of o.engine) x desk (Scan c.args.lo.now c.args.hi.now) (listed c.in-Ok.pairs.items)
-    (leads_passed g.D.Disk.tells g.D.Disk.ports_fail (λ o. desk_of o.engine) w x desk c.take-held.ensures.since (ap (λ m. m.0) c.put_back.ensures.passed ∙ ap (λ m. passed m.0) c.learn-at.ensures.same))
+    let shown = store_view c.take-held.result.value.engine in
+    read_at g.D.Disk.tells g.D.Disk.ports_fail (λ o. store_view o.engine) x shown (Scan c.args.lo.now c.args.hi.now) (listed c.in-Ok.pairs.items)
+    (leads_passed g.D.Disk.tells g.D.Disk.ports_fail (λ o. store_view o.engine) w x shown c.take-held.ensures.since (ap (λ m. m.0) c.put_back.ensures.passed ∙ ap (λ m. passed m.0) c.learn-at.ensures.same))
     (λ told config h stands. ok_of (λ held. answer (after h) (Scan c.args.lo.now c.args.hi.now) ≡ listed held.items) c.scan-answer.result (c.scan-answer.ensures.answer told config h stands) c.in-Ok.pairs c.in-Ok.is)
 
 pub returns-in-Err-clause-ready : goal.returns-in-Err-clause-ready
 returns-in-Err-clause-ready g c =
-    looked_ready all_counted (λ o. desk_of o.engine) c.args.session.now.seat.me c.take-held.new.session.seat.me.0 c.put_back.new.session.seat.me c.requires.ready c.take-held.ensures.more
+    looked_ready all_counted (λ o. store_view o.engine) c.args.session.now.seat.me c.take-held.new.session.seat.me.0 c.put_back.new.session.seat.me c.requires.ready c.take-held.ensures.more
     (c.put_back.ensures.passed ∙ ap (λ m. (passed m.0, [])) c.learn-at.ensures.same)
 
 pub returns-in-Err-clause-done : goal.returns-in-Err-clause-done

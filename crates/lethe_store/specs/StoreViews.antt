@@ -10,12 +10,12 @@ use Rattle.lethe_engine.specs.Answers.{Answers}
 use Rattle.lethe_engine.specs.declared.engine.Engine.{Engine}
 
 -- what its calls say of it, and the certificates that it has answered
-pub record Desk : Type 1 where
+pub record StoreView : Type 1 where
   pub view : View
   pub certificates : List Certificate
 
-abbrev pub desk_of : {D Page Port : Type 0} {kind : Ghosts D Page Port} → Engine D Page Port kind → Desk
-desk_of engine = record { view = view_of engine.core; certificates = engine.certificates.items }
+abbrev pub store_view : {D Page Port : Type 0} {kind : Ghosts D Page Port} → Engine D Page Port kind → StoreView
+store_view engine = record { view = view_of engine.core; certificates = engine.certificates.items }
 
 -- that the disk failed in a call, if it did
 abbrev pub failure_in : Option Refused → Option Failure
@@ -23,7 +23,7 @@ failure_in None = None
 failure_in (Some why) = failure_of why
 
 -- Nothing of the store was changed, as where a port was made: what it has in memory is as before, and the call is in no history.
-pub record IsSameStore (Tells : Type 0) (old new : Desk) : Type 0 where
+pub record IsSameStore (Tells : Type 0) (old new : StoreView) : Type 0 where
   pub why : Option Refused
   pub unfailed : failure_in why ≡ None
   pub answers : Answers Tells (Serves Work) why (face_of old.view) old.view new.view
