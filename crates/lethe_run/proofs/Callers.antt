@@ -1,9 +1,9 @@
 -- The orders and the lines of each caller, and a phase that is carried out caller by caller.
 use Rattle.std.proofs.Common.{◌≡◌, ◌≢◌, ◌⊎◌, ◌≤◌, ◌<◌, inl, inr, ℕ, zero, suc, ◌+◌, Bool, true, false, cond, List, [], ◌∷◌, ◌++◌, map, length, get_or, All, Option, Some, refl, sym, ap, ◌∙◌, subst, arith, append-nil}
-use Rattle.std.specs.Prelude.{◌==◌, filter, slice_set}
+use Rattle.std.specs.Prelude.{◌==◌, filter, replicate, slice_set}
 use Rattle.std.specs.List.{flat_map, sum_by}
 use Rattle.std.proofs.lemmas.Bool.{cases_lt, eq-eqb, eqb-true, ne_eqb}
-use Rattle.std.proofs.lemmas.List.{get_or-set_other, get_or-set_same, length-append, length-set}
+use Rattle.std.proofs.lemmas.List.{get_or-set_other, get_or-set_same, length-append, length-replicate, length-set}
 use Rattle.std.proofs.lemmas.List.Elements.{All-append, All-cons, All-nil, All-set, All-tail, All-weaker, filter-append, filter_passes}
 use Rattle.std.proofs.lemmas.List.Sums.{sum_by-append, sum_by-cons}
 use Rattle.lethe_disk.specs.declared.disk.Disk.{Ghosts}
@@ -19,7 +19,7 @@ use Rattle.lethe_run.specs.Ends.{IsFrontByCaller}
 use Rattle.lethe_run.specs.Holding.{AreShown, AreTen, held_at, held_for, held_in, slots_for, slots_of}
 use Rattle.lethe_run.specs.Rows.{IsStretch}
 use Rattle.lethe_run.specs.Slots.{AreInSlots, no_slots}
-use Rattle.lethe_run.specs.Transcript.{callers, is_of, places_behind}
+use Rattle.lethe_run.specs.Transcript.{callers, is_of, places_behind, printed}
 use Rattle.lethe_run.proofs.Anywhere.{later_itself, told_wider}
 use Rattle.lethe_run.proofs.Calm.{printed_len}
 use Rattle.lethe_run.proofs.Holding.{shown_later}
@@ -326,6 +326,48 @@ own_set n (suc k) (suc index) orders order within is =
     let first = one_still (suc n) orders order (λ same. omega (arith, same, is)) in
     let rest = own_set (suc n) k index orders order (omega (arith, within)) at in
     λ i. first i ∷ (ap (λ m. slice_set (map (λ caller. orders_by caller orders) (places_behind (suc n) k)) index (orders_by (suc m) orders ++ order ∷ [])) (let same : n + suc index ≡ suc n + index = omega arith in same) ∙ rest) i
+
+-- Where they are all of one caller
+
+none_in : (k : ℕ) → all_in (replicate k []) ≡ []
+none_in zero = refl
+none_in (suc k) = none_in k
+
+none_from : (n k : ℕ) (orders : List Order) → FrontsFrom n orders (replicate k [])
+none_from n zero orders = tt
+none_from n (suc k) orders = ((orders_by (suc n) orders, refl), none_from (suc n) k orders)
+
+-- so many lists, of which the one at an index isn't empty
+alone : (k index : ℕ) → List Order → List (List Order)
+alone zero index part = []
+alone (suc k) zero part = part ∷ replicate k []
+alone (suc k) (suc index) part = [] ∷ alone k index part
+
+alone_len : (k index : ℕ) (part : List Order) → length (alone k index part) ≡ k
+alone_len zero index part = refl
+alone_len (suc k) zero part = ap suc (length-replicate k [])
+alone_len (suc k) (suc index) part = ap suc (alone_len k index part)
+
+alone_in : (k index : ℕ) (part : List Order) → index < k → all_in (alone k index part) ≡ part
+alone_in zero index part within = absurd (omega (arith, within))
+alone_in (suc k) zero part within = ap (λ l. part ++ l) (none_in k) ∙ append-nil part
+alone_in (suc k) (suc index) part within = alone_in k index part (omega (arith, within))
+
+alone_from : (n k index : ℕ) (orders part rest : List Order) → orders_by (suc (n + index)) orders ≡ part ++ rest → FrontsFrom n orders (alone k index part)
+alone_from n zero index orders part rest is = tt
+alone_from n (suc k) zero orders part rest is = ((rest, ap (λ m. orders_by (suc m) orders) (let same : n ≡ n + 0 = omega arith in same) ∙ is), none_from (suc n) k orders)
+alone_from n (suc k) (suc index) orders part rest is =
+    ((orders_by (suc n) orders, refl), alone_from (suc n) k index orders part rest (ap (λ m. orders_by (suc m) orders) (let same : suc n + index ≡ n + suc index = omega arith in same) ∙ is))
+
+pub fronts_alone : (index : ℕ) (orders part rest : List Order) → index < 8 → AreOf (suc index) orders → orders ≡ part ++ rest → AreFronts orders part
+fronts_alone index orders part rest within of is =
+    subst (AreFronts orders) (alone_in 8 index part within)
+    (fronts_of_all orders (alone 8 index part)
+    (All-weaker (λ (order : Order). order.caller ≡ suc index) (λ (order : Order). IsCaller order.caller) (λ order same. record { from = omega (arith, same); upto = omega (arith, same, within) }) orders of)
+    (alone_len 8 index part) (alone_from 0 8 index orders part rest (by_itself (suc index) orders of ∙ is)))
+
+pub all_alone : (orders part : List Order) → AreFronts orders part → part ≡ orders → AreAll orders part
+all_alone orders part fronts is = record { is = sym fronts.printed ∙ ap printed is; by = λ caller. ap (orders_by caller) is }
 
 -- A phase, caller by caller
 

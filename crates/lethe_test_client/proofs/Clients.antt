@@ -27,11 +27,11 @@ use Rattle.lethe_run.specs.declared.reply.Line.{Line}
 use Rattle.lethe_run.specs.declared.reply.Line.TheVariants.{Answer}
 use Rattle.lethe_run.specs.declared.reply.Reply.TheVariants.{Done}
 use Rattle.lethe_run.specs.declared.reply.Reply.TheVariants as replies
-use Rattle.lethe_test_client.specs.Roomy.{IsFull, IsRoomyDisk, IsRoomySink, disk_room}
+use Rattle.lethe_test_client.specs.Roomy.{HasRoom, IsRoomyDisk, IsRoomySink, disk_room}
 use Rattle.lethe_test_client.specs.Runs.{client_run, empty_disk}
 use Rattle.lethe_test_client.specs.Scripts.{IsTickText, get_order, get_text, put_and_get, put_and_tick, put_order, the_put, the_tick, tick_order, tick_text}
 use Rattle.lethe_test_client.proofs.Empty.{first_number, left_for_nothing}
-use Rattle.lethe_test_client.proofs.Ending.{IsOver, ends_so}
+use Rattle.lethe_test_client.proofs.Ending.{IsOver, ended}
 use Rattle.lethe_test_client.proofs.Ending as ending
 use Rattle.lethe_run.proofs.TurnLaws.{one_order_of_lines, one_order_of_orders}
 use Rattle.lethe_test_client.proofs.Lines.{InOneTurn, IsFirstTick, IsSure, get_answered, get_lines, tick_answered}
@@ -113,9 +113,9 @@ module _ (sink : Wired) (disk : Held) where
   get_short : (lines : List (List Line)) → IsGot lines → length (text_of lines) < sink_room
   get_short lines got = let long : length (text_of lines) ≡ 22 = ap (λ l. length (text_of l)) got.is ∙ ap length get_printed in omega (arith, long)
 
-  pub get_ends : (status : ℕ) → Ends (client_run put_and_get sink disk) status → IsRoomyDisk disk → IsRoomySink sink → (status ≡ 0) ⊎ (status ≡ 7) ⊎ IsFull disk
-  get_ends status ends roomy roomy_sink =
-      ends_so put_and_get gets IsGot sink disk put_and_get_read (lit≤ tt) (only_one _) get_expected get_unrefused get_short roomy roomy_sink status ends
+  pub get_ends : (status : ℕ) → Ends (client_run put_and_get sink disk) status → IsRoomyDisk disk → IsRoomySink sink → HasRoom disk → (status ≡ 0) ⊎ (status ≡ 7)
+  get_ends status ends roomy roomy_sink room =
+      ended put_and_get gets IsGot sink disk put_and_get_read (lit≤ tt) (only_one _) get_expected get_unrefused get_short roomy roomy_sink room status ends
 
   got : (status : ℕ) → Ends (client_run put_and_get sink disk) status → IsRoomyDisk disk → IsRoomySink sink → status ≡ 0 → (lines : List (List Line)) × IsGot lines × (sink.bytes ≡ text_of lines)
   got status ends roomy roomy_sink zero = ending.printed put_and_get gets IsGot sink disk put_and_get_read (lit≤ tt) (only_one _) get_expected get_unrefused get_short roomy roomy_sink status ends zero
@@ -199,9 +199,9 @@ module _ (sink : Wired) (disk : Held) where
       let long : length (encode_lower tick.digest) ≡ 64 = length-encode_with _ tick.digest ∙ ap (λ n. 2 * n) tick.long in
       omega (arith, ap length text, length-append (encode_lower tick.digest) (10 ∷ []), long)
 
-  pub tick_ends : (status : ℕ) → Ends (client_run put_and_tick sink disk) status → IsRoomyDisk disk → IsRoomySink sink → (status ≡ 0) ⊎ (status ≡ 7) ⊎ IsFull disk
-  tick_ends status ends roomy roomy_sink =
-      ends_so put_and_tick ((put_order ∷ tick_order ∷ []) ∷ []) IsTick sink disk put_and_tick_read (lit≤ tt) (only_one _) tick_expected tick_unrefused tick_short roomy roomy_sink status ends
+  pub tick_ends : (status : ℕ) → Ends (client_run put_and_tick sink disk) status → IsRoomyDisk disk → IsRoomySink sink → HasRoom disk → (status ≡ 0) ⊎ (status ≡ 7)
+  tick_ends status ends roomy roomy_sink room =
+      ended put_and_tick ((put_order ∷ tick_order ∷ []) ∷ []) IsTick sink disk put_and_tick_read (lit≤ tt) (only_one _) tick_expected tick_unrefused tick_short roomy roomy_sink room status ends
 
   pub tick_prints : (status : ℕ) → Ends (client_run put_and_tick sink disk) status → IsRoomyDisk disk → IsRoomySink sink → status ≡ 0 → IsTickText sink.bytes
   tick_prints status ends roomy roomy_sink zero =

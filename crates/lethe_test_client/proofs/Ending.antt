@@ -18,7 +18,7 @@ use Rattle.lethe_run.specs.Ends.{Answered, Asks, Carries, Ends, IsAsked, IsNotOp
 use Rattle.lethe_run.specs.Printed.{open_line}
 use Rattle.lethe_run.specs.Transcript.{has_refusal, text_of}
 use Rattle.lethe_run.specs.declared.reply.Line.{Line}
-use Rattle.lethe_test_client.specs.Roomy.{IsFull, IsRoomyDisk, IsRoomySink, disk_room}
+use Rattle.lethe_test_client.specs.Roomy.{HasRoom, IsRoomyDisk, IsRoomySink, disk_room}
 use Rattle.lethe_test_client.specs.Runs.{client_run}
 use Rattle.lethe_test_client.proofs.Empty.{left_for_nothing, not_damaged, not_exhausted, not_other, only_first}
 use Rattle.lethe_test_client.proofs.Replies.{IsCalm}
@@ -169,10 +169,3 @@ module _ (script : Bytes) (phases : List (List Order)) (Expected : List (List Li
           | inr (inr seven) ↦ inr seven
         ]
       ]
-
-    -- so it ends, or the disk is full
-    pub ends_so : (status : ℕ) → Ends run status → (status ≡ 0) ⊎ (status ≡ 7) ⊎ IsFull disk
-    ends_so status ends = elim (cases_lt (calls_of disk) disk_room) [
-      | inl room ↦ elim (ended room status ends) [ inl zero ↦ inl zero | inr seven ↦ inr (inl seven) ]
-      | inr full ↦ inr (inr (omega (arith, full, roomy.within)))
-    ]

@@ -7,6 +7,10 @@ use Rattle.lethe_wire.specs.Memory.{Wired, sink_room}
 abbrev pub disk_room : ℕ
 disk_room = 1000
 
+-- it has room for another one
+abbrev pub HasRoom : Held → Type 0
+HasRoom held = calls_of held < disk_room
+
 -- it has taken as many
 abbrev pub IsFull : Held → Type 0
 IsFull held = calls_of held ≡ disk_room

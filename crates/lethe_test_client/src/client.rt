@@ -5,7 +5,7 @@ ghost use Rattle.lethe_base.specs.Configuration.{default_fields};
 ghost use Rattle.lethe_memdisk.specs.Held.{seen_of};
 ghost use Rattle.lethe_run.specs.Ends.{Ends};
 ghost use Rattle.lethe_stored.specs.Left.{IsLeft};
-ghost use Rattle.lethe_test_client.specs.Roomy.{IsFull, IsRoomyDisk, IsRoomySink};
+ghost use Rattle.lethe_test_client.specs.Roomy.{HasRoom, IsRoomyDisk, IsRoomySink};
 ghost use Rattle.lethe_test_client.specs.Runs.{client_run};
 ghost use Rattle.lethe_test_client.specs.Scripts.{put_and_get, put_and_tick, get_text, IsTickText, the_put, the_tick};
 
@@ -54,10 +54,10 @@ fn command(alloc: Global) -> Result<Vec<String>, NoMemory>
     Ok(words)
 }
 
-/// Puts a value and gets it. All is answered, or there was no memory, or the disk has taken as many calls as it has room for; and where all
-/// was answered, just its two lines are printed, and the disk is left for the put alone.
+/// Puts a value and gets it. On a disk with room, which it has for a thousand calls, all is answered, or there was no memory; and where all was answered, just its two lines are printed,
+/// and the disk is left for the put alone.
 pub fn put_and_get(alloc: Global) -> Result<Left, NoMemory>
-    ensures ends { IfOk result (λ left. (left.status ≡ 0) ⊎ (left.status ≡ 7) ⊎ IsFull left.disk) }
+    ensures ends { IfOk result (λ left. HasRoom left.disk → (left.status ≡ 0) ⊎ (left.status ≡ 7)) }
     ensures printed { IfOk result (λ left. left.status ≡ 0 → left.sink.bytes ≡ get_text) }
     ensures leaves { IfOk result (λ left. left.status ≡ 0 → IsLeft default_fields (seen_of left.disk) (the_put ∷ []) None) }
 {
@@ -67,7 +67,7 @@ pub fn put_and_get(alloc: Global) -> Result<Left, NoMemory>
 /// Puts a value and moves the clock to the threshold. It ends so too, and where all was answered, two lines are printed, the second with the first certificate,
 /// and the disk is left for the put and the tick.
 pub fn put_and_tick(alloc: Global) -> Result<Left, NoMemory>
-    ensures ends { IfOk result (λ left. (left.status ≡ 0) ⊎ (left.status ≡ 7) ⊎ IsFull left.disk) }
+    ensures ends { IfOk result (λ left. HasRoom left.disk → (left.status ≡ 0) ⊎ (left.status ≡ 7)) }
     ensures printed { IfOk result (λ left. left.status ≡ 0 → IsTickText left.sink.bytes) }
     ensures leaves { IfOk result (λ left. left.status ≡ 0 → IsLeft default_fields (seen_of left.disk) (the_put ∷ the_tick ∷ []) None) }
 {

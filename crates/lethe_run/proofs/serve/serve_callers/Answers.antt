@@ -14,8 +14,8 @@ use Rattle.lethe_run.specs.Rows.{IsStretch}
 use Rattle.lethe_run.proofs.Callers.{all_in, all_of_all, fronts_of_all, held_other, held_same, next_fronts, none_fronts, none_of_nobody, none_of_strange, own_fit, own_fit_all, own_next, part_is_own, phase_more, phase_none, seen_at, ten_more}
 use Rattle.lethe_run.proofs.Runs.{taken_next}
 use Rattle.lethe_run.proofs.Slotted.{flat_more}
-use Rattle.lethe_run.proofs.serve.serve_phase.Goals as goal
-use Rattle.lethe_run.proofs.serve.serve_phase.Goals.{then-not-serve_caller, else-not-serve_caller}
+use Rattle.lethe_run.proofs.serve.serve_callers.Goals as goal
+use Rattle.lethe_run.proofs.serve.serve_callers.Goals.{then-not-serve_caller, else-not-serve_caller}
 
 pub returns-in_default-clause-served : goal.returns-in_default-clause-served
 returns-in_default-clause-served g c =

@@ -7,7 +7,7 @@ use Rattle.lethe_script.specs.declared.order.Order.{Order}
 use Rattle.lethe_run.specs.Callers.{IsPhaseOfAll}
 use Rattle.lethe_run.specs.Holding.{AreTen, held_by, held_for}
 use Rattle.lethe_run.proofs.Callers.{FrontsFrom, all_in}
-use Rattle.lethe_run.proofs.serve.serve_phase.Given as goal
+use Rattle.lethe_run.proofs.serve.serve_callers.Given as goal
 
 -- the first callers have answered, each its first orders; the others' slots are as they were, and there is room for their lines
 abbrev pub invariant-loop-orders : goal.invariant-loop-orders
