@@ -28,9 +28,11 @@ CALLS = (
     ("Range", "delete keys from one up to another", ["lethe_base/src/range.rt"]),
     ("Certificate", "what a tick certifies", ["lethe_cert/src/certificate.rt"]),
     (None, "many changes at once", ["lethe_changes/src/changes.rt"]),
+    ("Store", "a store that several threads share", [f"lethe_store/src/{it}.rt" for it in ("changes", "changing", "reading", "store")]),
+    ("Session", "a caller of a shared store", ["lethe_store/src/session.rt"]),
 )
-# What calls of the engine itself make of a job, and what contracts alone speak of.
-INNER = {"Job": {"begun", "refuse", "is_refused", "next_page", "count_written", "take_made"}, "Snapshot": {"of", "release"}}
+# What calls of the engine itself make of a job, what contracts alone speak of, and what serves those who share a store by a log of their own.
+INNER = {"Job": {"begun", "refuse", "is_refused", "next_page", "count_written", "take_made"}, "Snapshot": {"of", "release"}, "Store": {"open_with", "take", "learn", "give", "put_back"}}
 TYPES = (
     ("Fields", "lethe_base/src/config.rt"),
     ("Pick", "lethe_base/src/config.rt"),
@@ -46,11 +48,12 @@ TYPES = (
     ("Asked", "lethe_row/src/asking.rt"),
     ("Row", "lethe_row/src/row.rt"),
     ("Changed", "lethe_changes/src/changes.rt"),
+    ("Read", "lethe_store/src/reading.rt"),
     ("KeyRefused", "lethe_base/src/key.rt"),
     ("ValueRefused", "lethe_base/src/value.rt"),
 )
 # What opening gives and each call keeps, so that nobody has to show it.
-KEPT = "IsSound D.tells"
+KEPT = ("IsSound D.tells", "IsReady", "seat.table_id")
 
 
 def read(path):
@@ -79,7 +82,7 @@ def calls_in(block, indent):
         signature = re.split(r"^\s*(?://[^\n]*\n\s*)*(?:requires|ensures)\b", text, maxsplit=1, flags=re.M)[0]
         asked = re.findall(r"^\s*requires (?:\w+ )?\{ (.*) \}$", text, re.M)
         lines = [line.strip().removeprefix("///").strip() for line in doc.strip().splitlines()]
-        yield "\n".join(lines), one_line(signature), [it for it in asked if KEPT not in it]
+        yield "\n".join(lines), one_line(signature), [it for it in asked if not any(kept in it for kept in KEPT)]
 
 
 def one_line(signature):
