@@ -12,7 +12,6 @@ use crate::order::{Item, Order, Script};
 use crate::refused::{BadLine, LineRefused, ScriptRefused, Why};
 use lethe_base::List;
 use std::alloc::{AllocError, Global};
-use std::mem;
 
 /// The greatest number of bytes of a script.
 pub const MAX_SCRIPT: usize = 16_777_216;
@@ -132,7 +131,9 @@ impl Reading {
         match read_item(alloc, line, text)? {
             None => {}
             Some(Item::PhaseEnd) => {
-                let orders = mem::replace(&mut self.current, Vec::new(alloc));
+                // A list of their own takes no more room than they do.
+                let mut orders = Vec::with_capacity(alloc, self.current.len())?;
+                orders.append(&mut self.current)?;
                 self.ended.push(List::of(orders))?;
             }
             Some(Item::Order(order)) => {
