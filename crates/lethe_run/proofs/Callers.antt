@@ -338,7 +338,7 @@ none_from n zero orders = tt
 none_from n (suc k) orders = ((orders_by (suc n) orders, refl), none_from (suc n) k orders)
 
 -- so many lists, of which the one at an index isn't empty
-alone : (k index : ℕ) → List Order → List (List Order)
+abbrev alone : (k index : ℕ) → List Order → List (List Order)
 alone zero index part = []
 alone (suc k) zero part = part ∷ replicate k []
 alone (suc k) (suc index) part = [] ∷ alone k index part
@@ -364,7 +364,7 @@ fronts_alone index orders part rest within of is =
     subst (AreFronts orders) (alone_in 8 index part within)
     (fronts_of_all orders (alone 8 index part)
     (All-weaker (λ (order : Order). order.caller ≡ suc index) (λ (order : Order). IsCaller order.caller) (λ order same. record { from = omega (arith, same); upto = omega (arith, same, within) }) orders of)
-    (alone_len 8 index part) (alone_from 0 8 index orders part rest (by_itself (suc index) orders of ∙ is)))
+    (alone_len 8 index part) (alone_from 0 8 index orders part rest (ap (λ m. orders_by (suc m) orders) (let same : 0 + index ≡ index = omega arith in same) ∙ by_itself (suc index) orders of ∙ is)))
 
 pub all_alone : (orders part : List Order) → AreFronts orders part → part ≡ orders → AreAll orders part
 all_alone orders part fronts is = record { is = sym fronts.printed ∙ ap printed is; by = λ caller. ap (orders_by caller) is }

@@ -27,6 +27,7 @@ use Rattle.lethe_run.specs.declared.reply.Reply.TheVariants.{Done, Ticked, Got, 
 use Rattle.lethe_run.specs.Carried.{IsSeen, Look, certificate_in, certificate_of, certificates_in, look_of, looked_in, looks_in}
 use Rattle.lethe_run.specs.Serving.{Advances, IsBorneOn, IsOn, IsAnswered, IsPhase, IsServedInTurn, Point}
 use Rattle.lethe_run.proofs.Images.{still}
+use Rattle.lethe_disk.proofs.Continuing.{continues_then}
 use Rattle.lethe_run.proofs.Lasting.{within}
 use Rattle.lethe_run.proofs.Outcomes.{told_of}
 use Rattle.lethe_run.proofs.Seen.{all_seen_later}

@@ -18,7 +18,7 @@ use Rattle.lethe_run.specs.Ends.{Answered, Asks, Carries, Ends, IsAsked, IsNotOp
 use Rattle.lethe_run.specs.Printed.{open_line}
 use Rattle.lethe_run.specs.Transcript.{has_refusal, text_of}
 use Rattle.lethe_run.specs.declared.reply.Line.{Line}
-use Rattle.lethe_test_client.specs.Roomy.{HasRoom, IsRoomyDisk, IsRoomySink, disk_room}
+use Rattle.lethe_test_client.specs.Roomy.{IsRoomyDisk, IsRoomySink, disk_room}
 use Rattle.lethe_test_client.specs.Runs.{client_run}
 use Rattle.lethe_test_client.proofs.Empty.{left_for_nothing, not_damaged, not_exhausted, not_other, only_first}
 use Rattle.lethe_test_client.proofs.Replies.{IsCalm}

@@ -4,8 +4,9 @@ use Rattle.lethe_core.specs.View.{view_of}
 use Rattle.lethe_script.specs.Slots.{held_through}
 use Rattle.lethe_run.specs.Holding.{held_in}
 use Rattle.lethe_run.specs.Rows.{orders_of, unlined}
-use Rattle.std.specs.Prelude.{IsSome, map}
-use Rattle.std.proofs.lemmas.List.{length-append, length_push, map-id}
+use Rattle.std.specs.Prelude.{IsSome, map, vec_len}
+use Rattle.std.proofs.lemmas.Bool.{eqb-true}
+use Rattle.std.proofs.lemmas.List.{length-append, length_push, map-id, nil_from_length}
 use Rattle.std.proofs.lemmas.Iterator.Consumers.{YieldsList-end}
 use Rattle.std.proofs.lemmas.Iterator.Adapters.{YieldsList-from_vec}
 use Rattle.lethe_run.proofs.Rows.{orders_append, phase_parts, stretch_none, stretch_then, waits_all, waits_more, waits_row}
@@ -69,6 +70,21 @@ serve_order-requires-clause-slotted g c κs within =
     taken_next c.args.orders.items c.into_iter-order-iterator.result c.loop-order.yielded c.loop-order.order-iterator order rest c.into_iter-order-iterator.ensures.into_iter_gives.0 c.loop-order.yielded_by c.in-Some.ensures.steps.0 in
     let held = held_in c.args.slots.now.held.items in
     order_finds c.loop-order.yielded held (held_in c.loop-order.slots.held.items) c.loop-order.invariant.slotted order rest (subst (λ orders. IsSome (held_through orders held)) whole c.requires.slotted)
+
+pub serve_row-requires-clause-rounds : goal.serve_row-requires-clause-rounds
+serve_row-requires-clause-rounds g c κs within =
+    let gives = c.into_iter-order-iterator.ensures.into_iter_gives in
+    let ended = YieldsList-end (YieldsList-from_vec c.args.orders.items gives.0 (gives.1 ∙ search rules)) c.loop-order.yielded c.loop-order.order-iterator c.loop-order.yielded_by c.next.result c.next.new.self c.in-None.is c.next.ensures.steps in
+    let all : c.args.orders.items ≡ c.loop-order.yielded = sym ended.0 ∙ map-id c.loop-order.yielded in
+    let so_far = c.loop-order.invariant.rounds in
+    let most = c.requires.rounds in
+    omega (arith, ap length all, so_far, most)
+
+pub returns-then-is_empty-clause-served : goal.returns-then-is_empty-clause-served
+returns-then-is_empty-clause-served g c =
+    let view = view_of c.args.engine.now.core in
+    let count : length c.args.orders.items ≡ 0 = omega (arith, eqb-true (vec_len c.args.orders) 0 (sym c.if-is_empty.ensures), c.args.orders.ok.0) in
+    ([], [], [], nil_from_length c.args.orders.items count, (λ is. refl), sym (append-nil c.args.lines.now.items), stretch_none g.D.Disk.tells g.D.Disk.ports_fail view c.args.slots.now.held.items)
 
 pub returns-then-not-serve_order-clause-served : goal.returns-then-not-serve_order-clause-served
 returns-then-not-serve_order-clause-served g c =
