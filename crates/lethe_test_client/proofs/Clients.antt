@@ -21,7 +21,7 @@ use Rattle.lethe_stored.specs.Left.{IsLeft, without_failed}
 use Rattle.lethe_run.specs.Anywhere.{AreTold, AreToldThrough, Standing, caller_in}
 use Rattle.lethe_run.specs.Carried.{IsBorneOut, IsCarriedOut, certificates_in, failed_in}
 use Rattle.lethe_run.specs.Ends.{Ends, course_of}
-use Rattle.lethe_run.specs.Transcript.{AreServed, Course, InTurn, IsServed, has_refusal, is_refusal, printed, text_of}
+use Rattle.lethe_run.specs.Transcript.{AreServed, Course, InTurn, IsServed, has_refusal, printed, text_of}
 use Rattle.lethe_run.specs.Transcript as transcript
 use Rattle.lethe_run.specs.declared.reply.Line.{Line}
 use Rattle.lethe_run.specs.declared.reply.Line.TheVariants.{Answer}
