@@ -1,8 +1,8 @@
 -- What a look finds is the entry of the key.
-use Rattle.std.proofs.Common.{◌≡◌, ℕ, inl, inr, cond, Option, Some, None, List, [], ◌∷◌, length, slice_get, refl, sym, ap, ◌∙◌, subst}
+use Rattle.std.proofs.Common.{◌≡◌, ℕ, inl, inr, cond, Option, Some, None, List, [], ◌∷◌, length, slice_get, sym, ap, ◌∙◌, subst}
 use Rattle.std.specs.Prelude.{option_and_then}
 use Rattle.std.specs.Ordering.{is_eq}
-use Rattle.std.specs.declared.cmp.Ordering.TheVariants.{Less, Equal, Greater}
+use Rattle.std.specs.declared.cmp.Ordering.TheVariants.{Less, Equal}
 use Rattle.lethe_base.specs.Keys.{Bytes, key_cmp}
 use Rattle.lethe_base.specs.Entries.{IsAscending, entry_of}
 use Rattle.lethe_base.specs.declared.entry.Entry.{Entry}

@@ -1,10 +1,10 @@
 -- A node that is hung in.
-use Rattle.std.proofs.Common.{◌≡◌, ◌≢◌, ℕ, ◌+◌, ◌-◌, ◌<◌, ◌≤◌, Bool, true, false, max, Option, Some, None, List, [], ◌∷◌, ◌++◌, sym, refl, ap, ◌∙◌, subst, arith}
+use Rattle.std.proofs.Common.{◌≡◌, ℕ, ◌-◌, ◌≤◌, Bool, true, false, Option, Some, None, List, [], ◌∷◌, ◌++◌, sym, refl, ap, ◌∙◌, subst, arith}
 use Rattle.std.specs.Prelude.{slice_get}
 use Rattle.lethe_tree.specs.declared.link.Link.{Link}
 use Rattle.lethe_tree.specs.Grown.{IsGrown, MayGrow, put}
 use Rattle.lethe_tree.specs.Settled.{IsReady, IsSettled}
-use Rattle.lethe_tree.specs.Shape.{Shape, Leaf, Fork, Lies, NotIn, Apart, height, link_of, order, root_of, size}
+use Rattle.lethe_tree.specs.Shape.{Shape, Leaf, Fork, NotIn, Apart, height, link_of, order, root_of}
 use Rattle.lethe_tree.proofs.Lists.{Disjoint, apart_split, apart_put, lies_beside, notin_parts, notin_put, put_left, put_right, turns_left, turns_right}
 use Rattle.lethe_tree.proofs.Growth.{heights, heights_right}
 

@@ -1,15 +1,15 @@
 -- What an insert makes of the entries of a tree.
-use Rattle.std.proofs.Common.{◌≡◌, ◌≢◌, ℕ, zero, suc, ◌+◌, ◌<◌, ◌≤◌, inl, inr, Bool, true, false, cond, Option, Some, None, List, [], ◌∷◌, ◌++◌, length, slice_get, slice_set, IsTrue, refl, sym, ap, ◌∙◌, subst, arith}
+use Rattle.std.proofs.Common.{◌≡◌, ◌≢◌, ℕ, ◌+◌, ◌<◌, inl, inr, Bool, true, false, cond, Option, Some, None, List, [], ◌∷◌, ◌++◌, length, slice_get, slice_set, IsTrue, refl, sym, ap, ◌∙◌, subst, arith}
 use Rattle.std.specs.Ordering.{is_lt, is_eq}
 use Rattle.std.specs.declared.cmp.Ordering.{Ordering}
 use Rattle.std.specs.declared.cmp.Ordering.TheVariants.{Less, Equal, Greater}
 use Rattle.std.specs.Cmp.Lexicographic.{nat_list_cmp_total}
 use Rattle.std.specs.FinMap.Entries.{below_all, by_order, put as put_key}
 use Rattle.std.proofs.lemmas.Bool.{and_parts, true≢false}
-use Rattle.lethe_base.specs.Keys.{Bytes, key_cmp, same_key}
+use Rattle.lethe_base.specs.Keys.{Bytes, key_cmp}
 use Rattle.lethe_base.specs.Entries.{by_key, IsAscending, entry_of}
 use Rattle.lethe_base.specs.declared.entry.Entry.{Entry}
-use Rattle.lethe_mem.proofs.Places.{above_head, less_is, own_key, tail_ascends, tied, turned}
+use Rattle.lethe_mem.proofs.Places.{above_head, less_is, own_key, tail_ascends, turned}
 use Rattle.lethe_tree.specs.Shape.{Apart, NotIn}
 use Rattle.lethe_tree.specs.Grown.{AllTrue, Turns, goes_left, is_below, put}
 use Rattle.lethe_tree.specs.Looked.{Holds, Stands, is_above, is_behind}

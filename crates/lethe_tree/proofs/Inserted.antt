@@ -3,12 +3,12 @@ use Rattle.std.proofs.Common.{◌≡◌, ℕ, zero, suc, ◌+◌, ◌<◌, ◌�
 use Rattle.std.specs.Prelude.{◌^◌, option_and_then}
 use Rattle.std.proofs.lemmas.List.{length-set}
 use Rattle.std.specs.FinMap.Entries.{put as put_key}
-use Rattle.lethe_base.specs.Keys.{Bytes, key_cmp}
+use Rattle.lethe_base.specs.Keys.{key_cmp}
 use Rattle.lethe_base.specs.Entries.{by_key, IsAscending, Inserts, entry_of}
 use Rattle.lethe_base.specs.declared.entry.Entry.{Entry}
 use Rattle.lethe_mem.proofs.Places.{inserts_from_put}
 use Rattle.lethe_tree.specs.declared.link.Link.{Link}
-use Rattle.lethe_tree.specs.Shape.{Shape, Leaf, Apart, Lies, NotIn, height, link_of, order, root_of, size}
+use Rattle.lethe_tree.specs.Shape.{Shape, Leaf, Apart, Lies, NotIn, height, link_of, order}
 use Rattle.lethe_tree.specs.Grown.{IsGrown, IsHung, MayGrow, MayHang, Turns, goes_left, put}
 use Rattle.lethe_tree.specs.Looked.{Holds, is_behind}
 use Rattle.lethe_tree.specs.Tree.{AllBelow, IsTree, at_each, entries_from, last_of}

@@ -1,5 +1,5 @@
 -- Looking for a key in a tree.
-use Rattle.std.proofs.Common.{◌≡◌, ◌≢◌, ℕ, zero, suc, ◌+◌, ◌-◌, ◌<◌, ◌≤◌, inl, inr, Bool, true, false, max, ltb, Option, Some, None, List, [], ◌∷◌, ◌++◌, length, slice_get, sym, refl, ap, ◌∙◌, subst, arith}
+use Rattle.std.proofs.Common.{◌≡◌, ℕ, ◌+◌, ◌-◌, ◌<◌, ◌≤◌, inl, inr, Bool, true, false, ltb, Option, Some, None, List, ◌∷◌, length, slice_get, sym, refl, ap, ◌∙◌, subst, arith}
 use Rattle.std.specs.Prelude.{◌^◌, ◌*◌}
 use Rattle.std.specs.declared.cmp.Ordering.{Ordering}
 use Rattle.std.specs.declared.cmp.Ordering.TheVariants.{Less, Equal, Greater}
@@ -11,9 +11,9 @@ use Rattle.lethe_base.specs.Entries.{IsAscending, entry_of}
 use Rattle.lethe_base.specs.declared.entry.Entry.{Entry}
 use Rattle.lethe_mem.proofs.Places.{tied}
 use Rattle.lethe_tree.specs.declared.link.Link.{Link}
-use Rattle.lethe_tree.specs.Shape.{Shape, Leaf, Fork, Lies, IsBalanced, height, link_of, order, root_of, size}
+use Rattle.lethe_tree.specs.Shape.{Shape, Leaf, Fork, IsBalanced, height, link_of, order, size}
 use Rattle.lethe_tree.specs.Looked.{IsFound, MayLook, Stands, side_of}
-use Rattle.lethe_tree.specs.Tree.{AllBelow, at_each}
+use Rattle.lethe_tree.specs.Tree.{at_each}
 use Rattle.lethe_tree.proofs.Growth.{many}
 use Rattle.lethe_tree.proofs.Ordered.{back_ascends, below_back, below_front, each_parts, entry_of-back, entry_of-front, front_ascends, stands_left, stands_right, got}
 use Rattle.lethe_mem.proofs.Places.{tail_ascends}

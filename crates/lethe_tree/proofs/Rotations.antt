@@ -1,9 +1,9 @@
 -- Two sides under a node become one balanced tree.
-use Rattle.std.proofs.Common.{◌≡◌, ◌≢◌, ℕ, ◌+◌, ◌<◌, ◌≤◌, max, Option, Some, None, List, [], ◌∷◌, ◌++◌, length, sym, refl, ap, ◌∙◌, subst, arith, append_assoc, length-append}
-use Rattle.std.specs.Prelude.{slice_get, ◌^◌, ◌*◌}
+use Rattle.std.proofs.Common.{◌≡◌, ℕ, ◌+◌, ◌<◌, ◌≤◌, Option, Some, None, List, [], ◌∷◌, ◌++◌, length, sym, refl, ap, ◌∙◌, subst, arith, append_assoc, length-append}
+use Rattle.std.specs.Prelude.{slice_get}
 use Rattle.lethe_tree.specs.declared.link.Link.{Link}
 use Rattle.lethe_tree.specs.Settled.{IsJoined, IsReady, IsSettled}
-use Rattle.lethe_tree.specs.Shape.{Shape, Leaf, Fork, Lies, IsBalanced, NotIn, Apart, height, link_of, order, root_of, size}
+use Rattle.lethe_tree.specs.Shape.{Shape, Leaf, Fork, Lies, NotIn, height, link_of, order, root_of, size}
 use Rattle.lethe_tree.proofs.Lists.{Disjoint, notin_parts, notin_join, apart_split, disjoint_parts, not_of, stays}
 
 pub height_le-size : (t : Shape) → height t ≤ size t

@@ -1,5 +1,5 @@
 -- A slice in which one was written.
-use Rattle.std.proofs.Common.{◌≡◌, ◌≢◌, ℕ, ◌+◌, ◌<◌, zero, suc, max, Option, Some, None, List, [], ◌∷◌, ◌++◌, length, refl, ap, sym, ◌∙◌, slice_set, arith}
+use Rattle.std.proofs.Common.{◌≡◌, ◌≢◌, ℕ, ◌+◌, ◌<◌, zero, suc, max, Option, Some, None, List, [], ◌∷◌, ◌++◌, length, refl, ap, slice_set, arith}
 use Rattle.std.specs.Prelude.{slice_get}
 use Rattle.lethe_tree.specs.declared.link.Link.{Link}
 use Rattle.lethe_tree.specs.Shape.{Shape, Leaf, Fork, Lies, height, link_of, root_of, size}

@@ -1,4 +1,3 @@
-use Rattle.std.proofs.Common.{ℕ}
 use Rattle.lethe_tree.proofs.growing.+grow.Given as goal
 
 abbrev pub decreases-grow : goal.decreases-grow

@@ -1,5 +1,4 @@
-use Rattle.std.proofs.Common.{rules, ◌≡◌, ◌∙◌, ap, ℕ, Some, arith}
-use Rattle.lethe_tree.specs.Shape.{height, size}
+use Rattle.std.proofs.Common.{◌∙◌, ap, Some, arith}
 use Rattle.lethe_tree.proofs.Rotations.{height_le-size}
 use Rattle.lethe_tree.proofs.Written.{same_set, other_set, link_is}
 use Rattle.lethe_tree.proofs.link.join.Goals as goal

@@ -1,4 +1,4 @@
-use Rattle.std.proofs.Common.{sym, ◌∙◌, arith, ◌≤◌, ◌<◌, ◌≡◌, ℕ, inl, inr}
+use Rattle.std.proofs.Common.{sym, ◌∙◌, ◌≤◌, ◌<◌, ◌≡◌, ℕ, inl, inr}
 use Rattle.std.proofs.Math.Nat.{eq-or-lt_of_le}
 use Rattle.lethe_tree.proofs.Placed.{linked_here, stands_here, seeks_left, seeks_right}
 use Rattle.lethe_tree.proofs.Written.{none_of}

@@ -2,7 +2,7 @@ use Rattle.std.proofs.Common.{sym, ap, ◌∙◌, ◌-◌, refl, subst}
 use Rattle.std.specs.Option.{option_copied}
 use Rattle.lethe_base.specs.Keys.{key_cmp}
 use Rattle.lethe_tree.proofs.Written.{none_of}
-use Rattle.lethe_tree.proofs.Looked.{IsLooking, begins, counted, ends_here, few_counted, few_steps, found_here, goes_on, keyed, there}
+use Rattle.lethe_tree.proofs.Looked.{IsLooking, begins, ends_here, few_counted, few_steps, found_here, goes_on, keyed, there}
 use Rattle.lethe_tree.proofs.looking.index_of.Goals as goal
 
 pub loop-left-init : goal.loop-left-init

@@ -1,4 +1,4 @@
-use Rattle.std.proofs.Common.{rules, sym, ◌∙◌, arith}
+use Rattle.std.proofs.Common.{sym, ◌∙◌, arith}
 use Rattle.std.proofs.lemmas.Option.{slice_get_within}
 use Rattle.lethe_tree.proofs.Rotations.{lean_left_once, lean_left_twice}
 use Rattle.lethe_tree.proofs.settling.lean_left.Goals as goal

@@ -1,4 +1,4 @@
-use Rattle.std.proofs.Common.{rules, arith}
+use Rattle.std.proofs.Common.{arith}
 use Rattle.lethe_tree.proofs.Rotations.{level}
 use Rattle.lethe_tree.proofs.settling.settle.Goals as goal
 

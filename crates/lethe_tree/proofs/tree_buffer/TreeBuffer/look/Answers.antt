@@ -1,4 +1,4 @@
-use Rattle.std.proofs.Common.{◌≡◌, ◌≤◌, ◌+◌, ◌-◌, ◌∙◌, length, slice_get, ap, sym, subst}
+use Rattle.std.proofs.Common.{◌≤◌, ◌+◌, ◌-◌, ◌∙◌, length, slice_get, ap, sym, subst}
 use Rattle.std.specs.Prelude.{◌^◌, option_and_then}
 use Rattle.lethe_base.specs.Entries.{entry_of}
 use Rattle.lethe_mem.specs.Buffered.{Buffered}

@@ -1,6 +1,5 @@
-use Rattle.std.proofs.Common.{◌≡◌, ◌∙◌, [], None, ap, subst, sym, refl, IsTrue}
+use Rattle.std.proofs.Common.{subst, sym, refl}
 use Rattle.lethe_base.specs.Entries.{IsAscending}
-use Rattle.lethe_tree.specs.Tree.{entries_from}
 use Rattle.lethe_tree.proofs.Seen.{nothing_seen}
 use Rattle.lethe_tree.proofs.tree_buffer.TreeBuffer.new.Goals as goal
 

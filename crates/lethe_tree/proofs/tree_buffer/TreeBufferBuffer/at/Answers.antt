@@ -1,7 +1,6 @@
-use Rattle.std.proofs.Common.{◌≡◌, ◌∙◌, slice_get, ap, sym, arith}
+use Rattle.std.proofs.Common.{◌∙◌, slice_get, ap, sym}
 use Rattle.std.specs.Prelude.{option_and_then}
 use Rattle.lethe_mem.specs.Buffered.{Buffered}
-use Rattle.lethe_tree.specs.Shape.{order}
 use Rattle.lethe_tree.proofs.Looked.{low_enough}
 use Rattle.lethe_tree.proofs.Seen.{may_look}
 use Rattle.lethe_tree.proofs.Inserted.{at_place}

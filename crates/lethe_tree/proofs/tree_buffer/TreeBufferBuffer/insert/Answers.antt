@@ -1,8 +1,8 @@
-use Rattle.std.proofs.Common.{◌≡◌, ◌∙◌, ◌++◌, ◌∷◌, [], ap, sym, subst, cond, true, is_ok, length, Some, None, arith, refl}
+use Rattle.std.proofs.Common.{◌≡◌, ◌∙◌, ◌++◌, ◌∷◌, [], ap, subst, cond, true, is_ok, length, Some, arith}
 use Rattle.std.proofs.lemmas.Option.{slice_get_within}
 use Rattle.lethe_base.specs.Entries.{Inserts}
 use Rattle.lethe_mem.specs.Buffered.{Buffered}
-use Rattle.lethe_tree.specs.Tree.{IsTree, entries_from}
+use Rattle.lethe_tree.specs.Tree.{entries_from}
 use Rattle.lethe_tree.proofs.Seen.{may_look}
 use Rattle.lethe_tree.proofs.Inserted.{added_among, added_behind, inserts_replaced}
 use Rattle.lethe_tree.proofs.tree_buffer.TreeBufferBuffer.insert.Goals as goal
