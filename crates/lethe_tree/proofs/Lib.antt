@@ -1,0 +1,12 @@
+pub mod Lists
+pub mod Rotations
+pub mod Growth
+pub mod Written
+pub mod Grown
+pub mod Ordered
+pub mod Seen
+pub mod Looked
+pub mod Placed
+pub mod Hung
+pub mod Inserted
+pub mod Found

@@ -1,0 +1,5 @@
+pub mod Grown
+pub mod Looked
+pub mod Settled
+pub mod Shape
+pub mod Tree
