@@ -1,3 +1,7 @@
 pub mod Seats
 pub mod Behind
+pub mod Pinned
+pub mod Begun
+pub mod Placed
+pub mod Ticked
 pub mod Crossing

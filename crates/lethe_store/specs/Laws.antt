@@ -1,10 +1,10 @@
 -- The laws of the log of changes: each call keeps what became of the opened store.
 use Rattle.std.proofs.Common.{◌≡◌, ℕ, ◌+◌, List, [], ◌∷◌, ◌++◌, length, Option, Some, None, Result, Ok, Err, refl, sym, ap, ◌∙◌, subst, arith, append-nil, append_assoc}
-use Rattle.std.specs.Prelude.{option_map}
+use Rattle.std.specs.Prelude.{All, option_map}
 use Rattle.std.specs.Option.{option_map_or, option_or}
 use Rattle.std.specs.Result.{result_err}
 use Rattle.std.proofs.lemmas.List.{length-append, map-append}
-use Rattle.std.proofs.lemmas.List.Elements.{All-nil, All-weaker}
+use Rattle.std.proofs.lemmas.List.Elements.{All-append, All-map, All-nil, All-weaker}
 use Rattle.std.proofs.lemmas.List.Sums.{fold-append}
 use Rattle.lethe_base.specs.History.{History}
 use Rattle.lethe_base.specs.declared.call.Call.{Call}
@@ -16,17 +16,19 @@ use Rattle.lethe_base.specs.declared.refused.Refused.TheVariants.{NoMemory}
 use Rattle.lethe_cert.specs.declared.certificate.Certificate.{Certificate}
 use Rattle.lethe_core.specs.Asked.{Asked, Makes, Serves, Failure, behind, clock_behind, counted, failure_of, stopped_by}
 use Rattle.lethe_core.specs.Running.{IsSound}
-use Rattle.lethe_core.specs.View.{View, face_of}
+use Rattle.lethe_core.specs.View.{Face, View, face_of}
 use Rattle.lethe_cover.specs.Steps.{with_done, with_failed}
 use Rattle.lethe_disk.specs.Runs.{Continues}
 use Rattle.lethe_disk.proofs.Continuing.{continues_itself, continues_then}
 use Rattle.lethe_engine.specs.Answers.{Answers}
-use Rattle.lethe_engine.specs.StandsFor.{IsCertified, Opened, StandsFor, StandsSince, opened_at}
+use Rattle.lethe_engine.specs.StandsFor.{IsCertified, IsCertifiedBy, Opened, StandsFor, StandsSince, opened_at}
 use Rattle.lethe_state.specs.Clock.{Clock, clock_of}
 use Rattle.lethe_store.specs.declared.entry.Entry.{Entry}
 use Rattle.lethe_store.specs.declared.entry.Mark.{Mark}
 use Rattle.lethe_store.specs.StoreViews.{StoreView, IsSameStore, failure_in}
 use Rattle.lethe_store.specs.Entries.{change_of, changes_of, clock_along, clock_by, entries_by, entries_of, failed_at, stopped_behind}
+use Rattle.lethe_store.specs.Diary.{AreNumbered, Diary, IsCertifiedAt, answered_in, certified_in, face_along, face_by, made_in}
+use Rattle.lethe_store.specs.DiaryLaws.{answered-append, certified-append, made-append, made_along, numbered-append}
 use Rattle.lethe_store.specs.Since.{AnyMarks, Since}
 
 -- What is entered of a call is what the call says of the history, of the count, of what stopped the store, and of the clock
@@ -111,20 +113,22 @@ clock_is caller (Serves call) (Some why) clock = failed_clocks caller call clock
 -- A certificate that stood stands behind a call, whatever was seen of the store's opening
 
 module _ (config : Fields) (opened : Opened) (h g : History) (old new : View) (on : (start : Opened) → StandsSince config start h old → StandsSince config start g new) (calls : Continues old.disk new.disk) where
+  still_certified : (before_tick : History) (caller : ℕ) (certificate : Certificate) → IsCertifiedBy config opened h old before_tick caller certificate → IsCertifiedBy config opened g new before_tick caller certificate
+  still_certified before_tick caller certificate is = record {
+    moment = is.moment;
+    from = is.from;
+    since = is.since;
+    stands = on (opened_at opened (with_done before_tick caller (Tick certificate.clock)) is.moment) is.stands;
+    number = is.number;
+    before = is.before;
+    each = λ d left. is.each d ((calls.past is.moment d is.stands.later).0 left);
+  }
+
   some_certified : (certificate : Certificate) → IsCertified config opened h old certificate → IsCertified config opened g new certificate
-  some_certified certificate (before_tick, caller, is) = (
-    before_tick,
-    caller,
-    record {
-      moment = is.moment;
-      from = is.from;
-      since = is.since;
-      stands = on (opened_at opened (with_done before_tick caller (Tick certificate.clock)) is.moment) is.stands;
-      number = is.number;
-      before = is.before;
-      each = λ d left. is.each d ((calls.past is.moment d is.stands.later).0 left);
-    },
-  )
+  some_certified certificate (before_tick, caller, is) = (before_tick, caller, still_certified before_tick caller certificate is)
+
+  placed_certified : (told : ℕ × Certificate) → IsCertifiedAt config opened h old told → IsCertifiedAt config opened g new told
+  placed_certified told (before_tick, caller, place, is) = (before_tick, caller, place, still_certified before_tick caller told.1 is)
 
   all_certified : (answered : List Certificate) → StandsFor config opened h old answered → StandsFor config opened g new answered
   all_certified answered stands = record {
@@ -132,13 +136,29 @@ module _ (config : Fields) (opened : Opened) (h g : History) (old new : View) (o
     certified = All-weaker (IsCertified config opened h old) (IsCertified config opened g new) some_certified answered stands.certified;
   }
 
+-- What a call that notes these marks says of its face and its certificates
+pub record IsNoted (Tells : Type 0) (caller : ℕ) (asked : Asked) (why : Option Refused) (more : List Mark) (old new : StoreView) : Type 0 where
+  pub face : face_of new.view ≡ face_along (face_of old.view) more
+  pub numbered : AreNumbered (old.view.pins.made + 1) (made_in more)
+  pub certificates : new.certificates ≡ old.certificates ++ answered_in more
+  pub certified : Tells → (config : Fields) (opened : Opened) (h : History) → StandsSince config opened h old.view → All (IsCertifiedAt config opened (behind h caller asked why) new.view) (certified_in more)
+
+-- a call that notes none leaves both
+pub noted_none : (Tells : Type 0) (caller : ℕ) (asked : Asked) (why : Option Refused) (old new : StoreView) → face_of new.view ≡ face_of old.view → new.certificates ≡ old.certificates → IsNoted Tells caller asked why [] old new
+noted_none Tells caller asked why old new face certificates = record {
+  face = face;
+  numbered = tt;
+  certificates = certificates ∙ sym (append-nil old.certificates);
+  certified = λ told config opened h s. All-nil (IsCertifiedAt config opened (behind h caller asked why) new.view);
+}
+
 module _ (Tells PortsFail : Type 0) (o old : StoreView) (entries : List Entry) (marks : List Mark) (since : Since Tells PortsFail o entries marks old) where
   -- whatever history the opened store stood for, it stands for that with the entries
   pub stands_along : Tells → (config : Fields) (opened : Opened) (h : History) → StandsSince config opened h o.view → StandsSince config opened (h ++ changes_of entries) old.view
   stands_along told config opened h s = (since.stands told config opened h [] (record { since = s; certified = All-nil (IsCertified config opened h o.view) })).since
 
-  module _ (new : StoreView) (caller : ℕ) (asked : Asked) (why : Option Refused) (answers : Answers Tells asked why (face_of old.view) old.view new.view)
-      (first : IsFirstFailure old.view.state.stopped old.view.state.count why) (same : new.certificates ≡ old.certificates) where
+  module _ (new : StoreView) (caller : ℕ) (asked : Asked) (why : Option Refused) (face : Face) (answers : Answers Tells asked why face old.view new.view)
+      (first : IsFirstFailure old.view.state.stopped old.view.state.count why) (more : List Mark) (noted : IsNoted Tells caller asked why more old new) where
     abbrev said : List Entry
     said = entries_by caller asked why
 
@@ -149,8 +169,49 @@ module _ (Tells PortsFail : Type 0) (o old : StoreView) (entries : List Entry) (
     calls_behind : Tells → (config : Fields) (opened : Opened) (h : History) → StandsSince config opened (h ++ changes_of entries) old.view → Continues old.view.disk new.view.disk
     calls_behind told config opened h s = let goes = answers.goes told config opened (h ++ changes_of entries) s caller in record { later = goes.later; past = goes.past }
 
-    -- the store behind a call is what became of the opened one by the call's own entry
-    pub since_call : Since Tells PortsFail o (entries ++ said) marks new
+    abbrev grown : History → History
+    grown h = behind (h ++ changes_of entries) caller asked why
+
+    -- what was noted stands behind the call
+    placed_behind : Tells → (config : Fields) (opened : Opened) (h : History) → StandsSince config opened h o.view → All (IsCertifiedAt config opened (grown h) new.view) (certified_in (marks ++ more))
+    placed_behind told config opened h s =
+        let stood = stands_along told config opened h s in
+        let carried = placed_certified config opened (h ++ changes_of entries) (grown h) old.view new.view (λ start on. answers.stands told config start (h ++ changes_of entries) on caller) (calls_behind told config opened h stood) in
+        subst (All (IsCertifiedAt config opened (grown h) new.view)) (sym (certified-append marks more))
+        (All-append (IsCertifiedAt config opened (grown h) new.view) (certified_in marks) (certified_in more)
+        (All-weaker (IsCertifiedAt config opened (h ++ changes_of entries) old.view) (IsCertifiedAt config opened (grown h) new.view) carried (certified_in marks) (since.diary.certified told config opened h s))
+        (noted.certified told config opened (h ++ changes_of entries) stood))
+
+    -- so do all certificates
+    all_behind : Tells → (config : Fields) (opened : Opened) (h : History) (answered : List Certificate) → StandsFor config opened h o.view answered → StandsFor config opened (grown h) new.view (answered ++ answered_in (marks ++ more))
+    all_behind told config opened h answered s =
+        let stood = since.stands told config opened h answered s in
+        let carried = all_certified config opened (h ++ changes_of entries) (grown h) old.view new.view (λ start on. answers.stands told config start (h ++ changes_of entries) on caller) (calls_behind told config opened h stood.since)
+          (answered ++ answered_in marks) stood in
+        let P : Certificate → Type 0 = IsCertified config opened (grown h) new.view in
+        let added : All P (answered_in more) = All-map P (λ (told : ℕ × Certificate). told.1) (certified_in more)
+          (All-weaker (IsCertifiedAt config opened (grown h) new.view) (λ (told : ℕ × Certificate). P told.1) (λ told is. (is.0, is.1, is.3)) (certified_in more) (noted.certified told config opened (h ++ changes_of entries) stood.since)) in
+        record {
+          since = carried.since;
+          certified = subst (All P) (append_assoc answered (answered_in marks) (answered_in more) ∙ ap (λ l. answered ++ l) (sym (answered-append marks more)))
+            (All-append P (answered ++ answered_in marks) (answered_in more) carried.certified added);
+        }
+
+    -- the diary with the call's own marks
+    diary_behind : Diary Tells o (entries ++ said) (marks ++ more) new
+    diary_behind = record {
+      face = noted.face ∙ ap (λ (f : Face). face_along f more) since.diary.face ∙ sym (fold-append face_by (face_of o.view) marks more);
+      numbered = subst (AreNumbered (o.view.pins.made + 1)) (sym (made-append marks more))
+        (numbered-append (o.view.pins.made + 1) (made_in marks) (made_in more) since.diary.numbered
+        (subst (λ n. AreNumbered n (made_in more)) (let m : old.view.pins.made ≡ o.view.pins.made + length (made_in marks) = ap (λ (f : Face). f.made) since.diary.face ∙ made_along (face_of o.view) marks since.diary.numbered in
+        let e : old.view.pins.made + 1 ≡ o.view.pins.made + 1 + length (made_in marks) = omega arith in e) noted.numbered));
+      certificates = noted.certificates ∙ ap (λ l. l ++ answered_in more) since.diary.certificates ∙ append_assoc o.certificates (answered_in marks) (answered_in more)
+        ∙ ap (λ l. o.certificates ++ l) (sym (answered-append marks more));
+      certified = λ told config opened h s. subst (λ l. All (IsCertifiedAt config opened l new.view) (certified_in (marks ++ more))) (history_is h) (placed_behind told config opened h s);
+    }
+
+    -- the store behind a call is what became of the opened one by the call's own entry and its own marks
+    pub since_call : Since Tells PortsFail o (entries ++ said) (marks ++ more) new
     since_call = record {
       sound = answers.sound;
       count = answers.count ∙ counted_is caller asked why old.view.state.count
@@ -161,18 +222,13 @@ module _ (Tells PortsFail : Type 0) (o old : StoreView) (entries : List Entry) (
       clock = answers.clock ∙ clock_is caller asked why (clock_of old.view.state.manifest) ∙ ap (λ (clock : Clock). clock_along clock said) since.clock
           ∙ sym (fold-append (λ (clock : Clock) (entry : Entry). clock_by entry.did entry.call clock) (clock_of o.view.state.manifest) entries said);
       faults = (let a = since.faults in let b = answers.faults in omega arith);
-      face = answers.face_is ∙ since.face;
-      certificates = same ∙ since.certificates;
-      stands = λ told config opened h answered s.
-          let stood = since.stands told config opened h answered s in
-          subst (λ l. StandsFor config opened l new.view answered) (history_is h)
-          (all_certified config opened (h ++ changes_of entries) (behind (h ++ changes_of entries) caller asked why) old.view new.view
-          (λ start on. answers.stands told config start (h ++ changes_of entries) on caller) (calls_behind told config opened h stood.since) answered stood);
+      diary = diary_behind;
+      stands = λ told config opened h answered s. subst (λ l. StandsFor config opened l new.view (answered ++ answered_in (marks ++ more))) (history_is h) (all_behind told config opened h answered s);
       calls = λ told config opened h s.
           continues_then o.view.disk old.view.disk new.view.disk (since.calls told config opened h s) (calls_behind told config opened h (stands_along told config opened h s));
     }
 
--- the opened store has had no entry
+-- the opened store has had no entry and no mark
 pub since_opened : (Tells PortsFail : Type 0) (o : StoreView) → IsSound Tells o.view → Since Tells PortsFail o [] [] o
 since_opened Tells PortsFail o sound = record {
   sound = sound;
@@ -180,9 +236,13 @@ since_opened Tells PortsFail o sound = record {
   stopped = same_stopped o.view.state.stopped o.view.state.count;
   clock = refl;
   faults = omega arith;
-  face = refl;
-  certificates = refl;
-  stands = λ told config opened h answered s. subst (λ l. StandsFor config opened l o.view answered) (sym (append-nil h)) s;
+  diary = record {
+    face = refl;
+    numbered = tt;
+    certificates = sym (append-nil o.certificates);
+    certified = λ told config opened h s. All-nil (IsCertifiedAt config opened (h ++ []) o.view);
+  };
+  stands = λ told config opened h answered s. subst (λ l. StandsFor config opened (h ++ []) o.view l) (sym (append-nil answered)) (subst (λ l. StandsFor config opened l o.view answered) (sym (append-nil h)) s);
   calls = λ told config opened h s. continues_itself o.view.disk;
 }
 
@@ -194,7 +254,9 @@ nothing_said caller (Some why) unfailed = ap (λ o. entries_of caller (Work ∷ 
 pub since_same : (Tells PortsFail : Type 0) (o : StoreView) (entries : List Entry) (marks : List Mark) (old new : StoreView) → Since Tells PortsFail o entries marks old → IsSameStore Tells old new → Since Tells PortsFail o entries marks new
 since_same Tells PortsFail o entries marks old new since same =
     subst (λ l. Since Tells PortsFail o l marks new) (ap (λ l. entries ++ l) (nothing_said 0 same.why same.unfailed) ∙ append-nil entries)
-    (since_call Tells PortsFail o old entries marks since new 0 (Serves Work) same.why same.answers (λ failure is. absurd (clash failure (sym same.unfailed ∙ is))) same.certificates)
+    (subst (λ l. Since Tells PortsFail o (entries ++ entries_by 0 (Serves Work) same.why) l new) (append-nil marks)
+    (since_call Tells PortsFail o old entries marks since new 0 (Serves Work) same.why (face_of old.view) same.answers (λ failure is. absurd (clash failure (sym same.unfailed ∙ is))) []
+    (noted_none Tells 0 (Serves Work) same.why old new same.answers.face_is same.certificates)))
   where
     clash : (failure : Failure) → None ≡ Some failure → ⊥
     clash failure is = cc
