@@ -176,7 +176,7 @@ module _ {V : Type 0} (Tells PortsFail : Type 0) (see : V → StoreView) where
       all = subst (All (IsHeldBehind (face_of (see o).view).held x.noted)) (ap (λ (f : Face). f.held) (sym (leads o op).diary.face)) (held_along (face_of (see o).view) x.noted)
 
       by : (pins : List Pin) → shown.view.pins.pins ≡ pins → first_limit_of pins ≡ Some (number, limit) → IsHeldBehind (face_of (see o).view).held x.noted (limited number limit)
-      by [] same is = let clash : None ≡ Some (number, limit) = is in cc
+      by [] same is = let clash : first_limit_of [] ≡ Some (number, limit) = is in cc
       by (pin ∷ pins) same is =
           subst (IsHeldBehind (face_of (see o).view).held x.noted) (ap (λ (found : Option (ℕ × ℕ)). limited (unwrap_or found (number, limit)).0 (unwrap_or found (number, limit)).1) is)
           (All-head (IsHeldBehind (face_of (see o).view).held x.noted) (limited_of pin) (map limited_of pins) (subst (λ l. All (IsHeldBehind (face_of (see o).view).held x.noted) (map limited_of l)) same all))
@@ -185,6 +185,11 @@ module _ {V : Type 0} (Tells PortsFail : Type 0) (see : V → StoreView) where
   pub due_seen : (x : Knows V) (shown : StoreView) (to : ℕ) (answer : Option Certificate) → Led x shown → IsCertificateAt shown.view.state.manifest.config.threshold to answer → IsCertifiedFrom see x to answer
   due_seen x shown to answer leads at o op =
       subst (λ n. IsCertificateAt n to answer) (ap (λ (clock : Clock). clock.threshold) (leads o op).clock ∙ threshold_along (clock_of (see o).view.state.manifest) x.seen) at
+
+  pub tick_due : (x : Knows V) (shown : StoreView) (to : ℕ) (result : Result Ticked Refused) → Led x shown → IfOk result (λ told. IsCertificateAt shown.view.state.manifest.config.threshold to told.certificate)
+      → IfOk result (λ told. IsCertifiedFrom see x to told.certificate)
+  tick_due x shown to (Ok told) leads at = due_seen x shown to told.certificate leads at
+  tick_due x shown to (Err why) leads at = tt
 
   module _ (v w x : Knows V) (old new : StoreView) (caller to : ℕ) (marked : List Mark) (knows : KnowsOpened all_counted see v) (more : HasSeenMore v w) (leads : Led w old) (result : Result Ticked Refused)
       (given : x ≡ passed_noting marked (entered (entries_by caller (Makes (Tick to)) (result_err result)) w)) where
