@@ -1,5 +1,5 @@
 -- What a session knows after its pins.
-use Rattle.std.proofs.Common.{◌≡◌, ◌≤◌, ◌<◌, inl, inr, ℕ, ◌+◌, List, [], ◌∷◌, ◌++◌, length, Some, None, refl, sym, ap, ◌∙◌, subst, append-nil}
+use Rattle.std.proofs.Common.{◌≡◌, ◌≤◌, ◌<◌, inl, inr, ℕ, ◌+◌, List, [], ◌∷◌, ◌++◌, None, refl, sym, ap, ◌∙◌, subst, append-nil}
 use Rattle.std.specs.Prelude.{◌⊎◌}
 use Rattle.std.proofs.lemmas.List.Elements.{All-nil}
 use Rattle.lethe_base.specs.History.{History}
@@ -19,10 +19,10 @@ use Rattle.lethe_engine.specs.StandsFor.{Opened, StandsSince}
 use Rattle.lethe_pins.specs.Held.{placed_by}
 use Rattle.lethe_state.specs.Clock.{Clock}
 use Rattle.lethe_stored.specs.Left.{without_failed}
-use Rattle.lethe_turn.specs.Seats.{count_of, passed_noting}
+use Rattle.lethe_turn.specs.Seats.{passed_noting}
 use Rattle.lethe_store.specs.declared.entry.Mark.{Mark}
 use Rattle.lethe_store.specs.declared.entry.Mark.TheVariants.{Made, Released}
-use Rattle.lethe_store.specs.Diary.{IsCertifiedAt, limited, made_in}
+use Rattle.lethe_store.specs.Diary.{IsCertifiedAt, limited}
 use Rattle.lethe_store.specs.DiaryLaws.{made_along}
 use Rattle.lethe_store.specs.Entries.{changes_of}
 use Rattle.lethe_store.specs.Laws.{IsNoted, since_call, stands_along}
@@ -69,9 +69,9 @@ module _ {V : Type 0} (Tells PortsFail : Type 0) (see : V → StoreView) where
     point_of = subst (λ u. IsPointOf Tells see u snapshot) (sym given) (record {
       shows = λ o op told config opened h s. of told config opened (h ++ changes_of w.seen) (stands_along Tells PortsFail (see o) shown w.seen w.noted (leads o op) told config opened h s);
       above = λ o op told config opened h s. subst (λ (clock : Clock). clock.time < snapshot.pin.limit) (leads o op).clock
-        (near told config opened (h ++ changes_of w.seen) (stands_along Tells PortsFail (see o) shown w.seen w.noted (leads o op) told config opened h s)).0;
+          (near told config opened (h ++ changes_of w.seen) (stands_along Tells PortsFail (see o) shown w.seen w.noted (leads o op) told config opened h s)).0;
       near = λ o op told config opened h s. subst (λ (clock : Clock). snapshot.pin.limit ≤ config.threshold + clock.time) (leads o op).clock
-        (near told config opened (h ++ changes_of w.seen) (stands_along Tells PortsFail (see o) shown w.seen w.noted (leads o op) told config opened h s)).1;
+          (near told config opened (h ++ changes_of w.seen) (stands_along Tells PortsFail (see o) shown w.seen w.noted (leads o op) told config opened h s)).1;
     })
 
   -- why a pin was refused

@@ -1,12 +1,11 @@
 -- What a session knows after its ticks.
-use Rattle.std.proofs.Common.{◌≡◌, ◌≢◌, ◌≤◌, ◌<◌, inl, inr, ℕ, ◌+◌, Bool, true, false, if◌then◌else◌, List, [], ◌∷◌, ◌++◌, length, map, Option, Some, None, Result, Ok, Err, refl, sym, ap, ◌∙◌, subst, arith, append-nil, append_assoc}
-use Rattle.std.specs.Prelude.{◌⊎◌, All, IfErr, IfOk, IfSome, IsErrOf, MatchResult, option_to_list, unwrap_or}
+use Rattle.std.proofs.Common.{◌≡◌, ◌≤◌, ◌<◌, inl, inr, ℕ, ◌+◌, Bool, true, false, if◌then◌else◌, List, [], ◌∷◌, ◌++◌, length, map, Option, Some, None, Result, Ok, Err, refl, sym, ap, ◌∙◌, subst, arith, append-nil, append_assoc}
+use Rattle.std.specs.Prelude.{All, IfErr, IfOk, IfSome, IsErrOf, MatchResult, option_to_list, unwrap_or}
 use Rattle.std.specs.Result.{result_err}
 use Rattle.std.proofs.lemmas.List.{length-append, map-append}
-use Rattle.std.proofs.lemmas.List.Elements.{All-contains, All-head, All-nil, All-cons}
+use Rattle.std.proofs.lemmas.List.Elements.{All-head, All-nil, All-cons}
 use Rattle.lethe_base.specs.Counts.{Rose}
 use Rattle.lethe_base.specs.History.{History}
-use Rattle.lethe_base.specs.Limits.{max_place}
 use Rattle.lethe_base.specs.declared.call.Call.{Call}
 use Rattle.lethe_base.specs.declared.call.Call.TheVariants.{Put, Delete, Erase, Tick, Work}
 use Rattle.lethe_base.specs.declared.call.Did.{Did}
@@ -33,15 +32,13 @@ use Rattle.lethe_state.specs.Clock.{Clock, clock_of}
 use Rattle.lethe_turn.specs.Seats.{HasSeenMore, count_of, entered, passed_noting}
 use Rattle.lethe_store.specs.declared.entry.Entry.{Entry}
 use Rattle.lethe_store.specs.declared.entry.Mark.{Mark}
-use Rattle.lethe_store.specs.declared.entry.Mark.TheVariants.{Round, Certified}
 use Rattle.lethe_store.specs.Diary.{AreNumbered, IsCertifiedAt, IsHeldBehind, answered_in, certified_in, face_along, limited, made_in}
 use Rattle.lethe_store.specs.DiaryLaws.{held_along}
-use Rattle.lethe_store.specs.Entries.{change_of, changes_of, clock_along, clock_by, entries_by, stopped_behind}
+use Rattle.lethe_store.specs.Entries.{change_of, changes_of, clock_along, clock_by, entries_by}
 use Rattle.lethe_store.specs.Laws.{IsFirstFailure, IsNoted, stands_along}
-use Rattle.lethe_store.specs.Reads.{IsClockSeen}
-use Rattle.lethe_store.specs.Reasons.{IsStoppedAt, PortCounts}
+use Rattle.lethe_store.specs.Reasons.{PortCounts}
 use Rattle.lethe_store.specs.Sessions.{KnowsOpened}
-use Rattle.lethe_store.specs.Since.{Since, all_counted}
+use Rattle.lethe_store.specs.Since.{all_counted}
 use Rattle.lethe_store.specs.StoreViews.{StoreView}
 use Rattle.lethe_store.specs.Ticks.{HasReasonOfTick, HoldsPin, IsBegunBy, IsCertifiedFrom, IsTrueOf, answered_at, certified_at, ticked_by}
 use Rattle.lethe_store.proofs.Behind.{Knows, Leads, counts_seen}
@@ -97,7 +94,7 @@ module _ (Tells : Type 0) (caller to : ℕ) (old new : StoreView) (directory : D
     (kept : MatchResult result (λ told. new.certificates ≡ old.certificates ++ option_to_list told.certificate) (λ why. new.certificates ≡ old.certificates))
     (is_true : Tells → (config : Fields) (opened : Opened) (h : History) → StandsSince config opened h old.view → (caller : ℕ) → IfOk result (λ told. IfSome told.certificate (λ certificate. IsTrueCertificate config.threshold certificate directory (with_done h caller (Tick to)))))
     (certified : Tells → (config : Fields) (opened : Opened) (h : History) (answered : List Certificate) → StandsFor config opened h old.view answered → (caller : ℕ)
-      → StandsFor config opened (behind h caller (Makes (Tick to)) (result_err result)) new.view (answered ++ answered_by result)) where
+    → StandsFor config opened (behind h caller (Makes (Tick to)) (result_err result)) new.view (answered ++ answered_by result)) where
   face_by_passing : (passed : Bool) → face_of new.view ≡ (if passed then record (face_of old.view) { rounds = old.view.rounds + 1; flights = [] } else face_of old.view) → face_of new.view ≡ face_along (face_of old.view) (ticked_by passed result)
   face_by_passing true is = is ∙ sym (face_noted (record (face_of old.view) { rounds = old.view.rounds + 1; flights = [] }) result)
   face_by_passing false is = is
@@ -120,13 +117,13 @@ module _ (Tells : Type 0) (caller to : ℕ) (old new : StoreView) (directory : D
   stands_at tells config opened h s told ok (Some certificate) same =
       let g = with_done h caller (Tick to) in
       let truth : IsTrueCertificate config.threshold certificate directory g =
-        subst (λ o. IfSome o (λ certificate. IsTrueCertificate config.threshold certificate directory g)) same
-        (subst (λ r. IfOk r (λ told. IfSome told.certificate (λ certificate. IsTrueCertificate config.threshold certificate directory g))) ok (is_true tells config opened h s caller)) in
+      subst (λ o. IfSome o (λ certificate. IsTrueCertificate config.threshold certificate directory g)) same
+      (subst (λ r. IfOk r (λ told. IfSome told.certificate (λ certificate. IsTrueCertificate config.threshold certificate directory g))) ok (is_true tells config opened h s caller)) in
       let at : IsCertificateAt new.view.state.manifest.config.threshold to (Some certificate) = subst (IsCertificateAt new.view.state.manifest.config.threshold to) same (subst (λ r. IfOk r (λ told. IsCertificateAt new.view.state.manifest.config.threshold to told.certificate)) ok due) in
       let here = (subst (λ r. IfOk r (λ told. (told.place ≡ old.view.state.count + 1) × (told.clock ≡ to))) ok place).0 in
       let all = certified tells config opened h [] (record { since = s; certified = All-nil (IsCertified config opened h old.view) }) caller in
       let some : All (IsCertified config opened g new.view) (option_to_list told.certificate) =
-        subst (λ r. All (IsCertified config opened (behind h caller (Makes (Tick to)) (result_err r)) new.view) (answered_by r)) ok all.certified in
+      subst (λ r. All (IsCertified config opened (behind h caller (Makes (Tick to)) (result_err r)) new.view) (answered_by r)) ok all.certified in
       let own : IsCertified config opened g new.view certificate = All-head (IsCertified config opened g new.view) certificate [] (subst (λ o. All (IsCertified config opened g new.view) (option_to_list o)) same some) in
       let counts = s.now.count in
       let before = truth.before in
@@ -225,10 +222,10 @@ module _ {V : Type 0} (Tells PortsFail : Type 0) (see : V → StoreView) where
         by (Err why) same = tt
         by (Ok told) same = λ o op tells config opened h s.
             let along : with_done (h ++ changes_of w.seen) caller (Tick to) ≡ h ++ changes_of x.seen =
-              append_assoc h (changes_of w.seen) (changes_of (entries_by caller (Makes (Tick to)) None)) ∙ ap (λ l. h ++ l) (sym (map-append change_of w.seen (entries_by caller (Makes (Tick to)) None)))
-              ∙ ap (λ r. h ++ changes_of (w.seen ++ entries_by caller (Makes (Tick to)) (result_err r))) (sym same) ∙ ap (λ l. h ++ changes_of l) (sym seen_is) in
+            append_assoc h (changes_of w.seen) (changes_of (entries_by caller (Makes (Tick to)) None)) ∙ ap (λ l. h ++ l) (sym (map-append change_of w.seen (entries_by caller (Makes (Tick to)) None)))
+            ∙ ap (λ r. h ++ changes_of (w.seen ++ entries_by caller (Makes (Tick to)) (result_err r))) (sym same) ∙ ap (λ l. h ++ changes_of l) (sym seen_is) in
             let is = subst (λ r. IfOk r (λ told. IfSome told.certificate (λ certificate. IsTrueCertificate config.threshold certificate directory (with_done (h ++ changes_of w.seen) caller (Tick to))))) same
-              (clause tells config opened (h ++ changes_of w.seen) (stands_along Tells PortsFail (see o) old w.seen w.noted (leads o (opened_before o op)) tells config opened h s) caller) in
+            (clause tells config opened (h ++ changes_of w.seen) (stands_along Tells PortsFail (see o) old w.seen w.noted (leads o (opened_before o op)) tells config opened h s) caller) in
             some told.certificate directory config.threshold (with_done (h ++ changes_of w.seen) caller (Tick to)) (h ++ changes_of x.seen) along is
 
   module _ (v w x : Knows V) (old new : StoreView) (caller to : ℕ) (marked : List Mark) (knows : KnowsOpened all_counted see v) (more : HasSeenMore v w) (leads : Led w old) (leads_now : Led x new) (before now : PortCounts)
@@ -259,9 +256,10 @@ module _ {V : Type 0} (Tells PortsFail : Type 0) (see : V → StoreView) where
         let bars = barred.1 in
         let number : pin ≡ bars.pin = ap (λ (why : Refused). elim why [ Pinned p l ↦ p | _ ↦ pin ]) bars.told in
         let same : limit ≡ bars.limit = ap (λ (why : Refused). elim why [ Pinned p l ↦ l | _ ↦ limit ]) bars.told in
-        let reached = bars.reached in
-        ((let e : limit ≤ to = omega (arith, same, reached) in e),
-        holds_noted x new pin limit leads_now (ap (λ (held : Held). first_limit_of held.pins) pins ∙ bars.first ∙ (λ i. Some (sym number i, sym same i))))
+        let reached = bars.reached in (
+          (let e : limit ≤ to = omega (arith, same, reached) in e),
+          holds_noted x new pin limit leads_now (ap (λ (held : Held). first_limit_of held.pins) pins ∙ bars.first ∙ (λ i. Some (sym number i, sym same i))),
+        )
     reason (Pinned pin limit) (inr (inr (inl is))) answers fetched given = absurd is
     reason (Pinned pin limit) (inr (inr (inr unread))) answers fetched given = absurd unread.1
     reason (Exhausted last) (inl behind) answers fetched given = let clash : Exhausted last ≡ Backwards old.view.state.manifest.clock = behind.2 in cc

@@ -1,5 +1,5 @@
 -- What follows from a diary: how many pins were made, and that each held pin was held at the opening or made since, and not let go behind that.
-use Rattle.std.proofs.Common.{◌≡◌, ◌≢◌, inl, inr, ◌<◌, ℕ, ◌+◌, Bool, true, false, not, List, [], ◌∷◌, ◌++◌, length, cond, map, refl, sym, ap, ◌∙◌, subst, arith, append-nil}
+use Rattle.std.proofs.Common.{◌≡◌, ◌≢◌, inl, inr, ℕ, ◌+◌, Bool, true, false, not, List, [], ◌∷◌, ◌++◌, length, cond, map, refl, sym, ap, ◌∙◌, subst, arith}
 use Rattle.std.specs.Prelude.{◌⊎◌, ◌==◌, All, Contains, filter, nat_lt}
 use Rattle.std.proofs.lemmas.List.{map-append}
 use Rattle.std.proofs.lemmas.List.Elements.{All-cons, All-contains, All-contains_itself, All-filter, All-head, All-nil, All-tail, All-weaker, filter_map-append, filter_passes}
@@ -61,10 +61,10 @@ held_made : (face : Face) (number limit : ℕ) (marks : List Mark) (pin : Limite
 held_made face number limit marks pin (inr (before, behind, is, unreleased)) = inr (Made number limit ∷ before, behind, ap (λ l. Made number limit ∷ l) is, unreleased)
 held_made face number limit marks pin (inl (there, unreleased)) =
     elim (All-contains (λ p. (p ≡ limited number limit) ⊎ Contains face.held p) (face_by face (Made number limit)).held pin
-      (all_placed (λ p. (p ≡ limited number limit) ⊎ Contains face.held p) (λ (p : Limited). p.limit) (limited number limit) face.held (inl refl)
-      (All-weaker (Contains face.held) (λ p. (p ≡ limited number limit) ⊎ Contains face.held p) (λ p has. inr has) face.held (All-contains_itself face.held))) there) [
-    | inl same ↦ inr ([], marks, ap (λ (p : Limited). Made p.number p.limit ∷ marks) (sym same), unreleased)
-    | inr has ↦ inl (has, unreleased_by pin.number (Made number limit) marks (λ is. cc) unreleased)
+    (all_placed (λ p. (p ≡ limited number limit) ⊎ Contains face.held p) (λ (p : Limited). p.limit) (limited number limit) face.held (inl refl)
+    (All-weaker (Contains face.held) (λ p. (p ≡ limited number limit) ⊎ Contains face.held p) (λ p has. inr has) face.held (All-contains_itself face.held))) there) [
+      | inl same ↦ inr ([], marks, ap (λ (p : Limited). Made p.number p.limit ∷ marks) (sym same), unreleased)
+      | inr has ↦ inl (has, unreleased_by pin.number (Made number limit) marks (λ is. cc) unreleased)
     ]
 
 abbrev released_number : Mark → ℕ

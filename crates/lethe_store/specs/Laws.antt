@@ -187,14 +187,14 @@ module _ (Tells PortsFail : Type 0) (o old : StoreView) (entries : List Entry) (
     all_behind told config opened h answered s =
         let stood = since.stands told config opened h answered s in
         let carried = all_certified config opened (h ++ changes_of entries) (grown h) old.view new.view (λ start on. answers.stands told config start (h ++ changes_of entries) on caller) (calls_behind told config opened h stood.since)
-          (answered ++ answered_in marks) stood in
+        (answered ++ answered_in marks) stood in
         let P : Certificate → Type 0 = IsCertified config opened (grown h) new.view in
         let added : All P (answered_in more) = All-map P (λ (told : ℕ × Certificate). told.1) (certified_in more)
-          (All-weaker (IsCertifiedAt config opened (grown h) new.view) (λ (told : ℕ × Certificate). P told.1) (λ told is. (is.0, is.1, is.3)) (certified_in more) (noted.certified told config opened (h ++ changes_of entries) stood.since)) in
+        (All-weaker (IsCertifiedAt config opened (grown h) new.view) (λ (told : ℕ × Certificate). P told.1) (λ told is. (is.0, is.1, is.3)) (certified_in more) (noted.certified told config opened (h ++ changes_of entries) stood.since)) in
         record {
           since = carried.since;
           certified = subst (All P) (append_assoc answered (answered_in marks) (answered_in more) ∙ ap (λ l. answered ++ l) (sym (answered-append marks more)))
-            (All-append P (answered ++ answered_in marks) (answered_in more) carried.certified added);
+              (All-append P (answered ++ answered_in marks) (answered_in more) carried.certified added);
         }
 
     -- the diary with the call's own marks
@@ -202,11 +202,11 @@ module _ (Tells PortsFail : Type 0) (o old : StoreView) (entries : List Entry) (
     diary_behind = record {
       face = noted.face ∙ ap (λ (f : Face). face_along f more) since.diary.face ∙ sym (fold-append face_by (face_of o.view) marks more);
       numbered = subst (AreNumbered (o.view.pins.made + 1)) (sym (made-append marks more))
-        (numbered-append (o.view.pins.made + 1) (made_in marks) (made_in more) since.diary.numbered
-        (subst (λ n. AreNumbered n (made_in more)) (let m : old.view.pins.made ≡ o.view.pins.made + length (made_in marks) = ap (λ (f : Face). f.made) since.diary.face ∙ made_along (face_of o.view) marks since.diary.numbered in
-        let e : old.view.pins.made + 1 ≡ o.view.pins.made + 1 + length (made_in marks) = omega arith in e) noted.numbered));
+          (numbered-append (o.view.pins.made + 1) (made_in marks) (made_in more) since.diary.numbered
+          (subst (λ n. AreNumbered n (made_in more)) (let m : old.view.pins.made ≡ o.view.pins.made + length (made_in marks) = ap (λ (f : Face). f.made) since.diary.face ∙ made_along (face_of o.view) marks since.diary.numbered in
+          let e : old.view.pins.made + 1 ≡ o.view.pins.made + 1 + length (made_in marks) = omega arith in e) noted.numbered));
       certificates = noted.certificates ∙ ap (λ l. l ++ answered_in more) since.diary.certificates ∙ append_assoc o.certificates (answered_in marks) (answered_in more)
-        ∙ ap (λ l. o.certificates ++ l) (sym (answered-append marks more));
+          ∙ ap (λ l. o.certificates ++ l) (sym (answered-append marks more));
       certified = λ told config opened h s. subst (λ l. All (IsCertifiedAt config opened l new.view) (certified_in (marks ++ more))) (history_is h) (placed_behind told config opened h s);
     }
 

@@ -22,7 +22,12 @@ pub enum Mark {
         certificate: Certificate,
     },
     /// A pin of this number was made, with this limit.
-    Made { number: u64, limit: u64 },
+    Made {
+        number: u64,
+        limit: u64,
+    },
     /// The pin of this number was let go.
-    Released { number: u64 },
+    Released {
+        number: u64,
+    },
 }

@@ -112,12 +112,7 @@ impl<D: Disk, L: Log> Store<D, L> {
     }
 
     /// Passes the turn on with the store, where marks alone are to be noted.
-    pub fn note(
-        &self,
-        session: &mut Session<D, L>,
-        held: Held<Lent<D, L>>,
-        noted: &Told<L::Mark>,
-    )
+    pub fn note(&self, session: &mut Session<D, L>, held: Held<Lent<D, L>>, noted: &Told<L::Mark>)
         requires of { session.old.seat.table_id ≡ self.now.turn.table.shared.table_id }
         requires held { Holds session.old.seat.me held.ticket }
         requires since { IsLedTo (λ o. store_view o.engine) (L.since D.tells D.ports_fail) (passed_noting noted.now.items session.old.seat.me.0) (store_view held.value.engine) }

@@ -1,4 +1,4 @@
-use Rattle.std.proofs.Common.{◌≡◌, ◌+◌, [], ◌∷◌, Err, sym, ap, ◌∙◌, subst}
+use Rattle.std.proofs.Common.{◌≡◌, [], ◌∷◌, Err, sym, ap, ◌∙◌, subst}
 use Rattle.lethe_base.specs.Limits.{max_place}
 use Rattle.lethe_store.specs.declared.entry.Mark.TheVariants as mark
 use Rattle.lethe_store.specs.Since.{Since, all_counted}
@@ -39,8 +39,8 @@ returns-in-Ok-clause-number g c =
     let does = c.in-Ok.ensures in
     let said : c.told_made-noted.result.items ≡ mark.Made c.in-Ok.snapshot.pin.number c.in-Ok.snapshot.pin.limit ∷ [] = c.told_made-noted.ensures ∙ (λ i. mark.Made (c.number.ensures i) (c.limit.ensures i) ∷ []) in
     let leads = subst (λ m. IsLedTo (λ o. store_view o.engine) (Since g.D.Disk.tells g.D.Disk.ports_fail) m.0 new) (sym c.note.ensures.noted)
-      (leads_noting g.D.Disk.tells g.D.Disk.ports_fail (λ o. store_view o.engine) w old new _ c.told_made-noted.result.items (mark.Made c.in-Ok.snapshot.pin.number c.in-Ok.snapshot.pin.limit ∷ []) c.take-held.ensures.since does.answers said
-      (noted_made g.D.Disk.tells old new c.in-Ok.snapshot.pin.number c.in-Ok.snapshot.pin.limit does.number does.answers.face_is (ap (λ l. l.items) does.certificates))) in
+    (leads_noting g.D.Disk.tells g.D.Disk.ports_fail (λ o. store_view o.engine) w old new _ c.told_made-noted.result.items (mark.Made c.in-Ok.snapshot.pin.number c.in-Ok.snapshot.pin.limit ∷ []) c.take-held.ensures.since does.answers said
+    (noted_made g.D.Disk.tells old new c.in-Ok.snapshot.pin.number c.in-Ok.snapshot.pin.limit does.number does.answers.face_is (ap (λ l. l.items) does.certificates))) in
     made_seen g.D.Disk.tells g.D.Disk.ports_fail (λ o. store_view o.engine) x new c.in-Ok.snapshot.pin.number leads (ap (λ p. p.made) c.in-Ok.ensures.pinned.is)
 
 pub returns-in-Ok-clause-point : goal.returns-in-Ok-clause-point

@@ -1,4 +1,4 @@
-use Rattle.std.proofs.Common.{◌≡◌, ◌<◌, ◌∙◌, [], ◌∷◌, length, not, refl, sym, ap, subst}
+use Rattle.std.proofs.Common.{◌≡◌, ◌∙◌, length, not, refl, sym, ap, subst}
 use Rattle.std.specs.Prelude.{IfErr, ◌==◌}
 use Rattle.std.specs.Result.{result_err}
 use Rattle.lethe_base.specs.declared.call.Call.TheVariants.{Tick}
@@ -30,9 +30,9 @@ give-requires-clause-room g c κs within =
     let why = is.why in
     let passed = passes (view_of old.core) c.args.to in
     let begun = begun_so (view_of old.core) c.args.to c.tick-answer.result c.take-held.ensures.sound.writable.count is.stopped is.backwards is.exhausted is.pinned g.D.Disk.tells g.D.Disk.ports_fail (view_of new.core)
-      (g.D.Disk.port_faults c.take-held.new.session.port) (g.D.Disk.port_faults c.tick-answer.new.port) c.tick-answer.result refl why in
+    (g.D.Disk.port_faults c.take-held.new.session.port) (g.D.Disk.port_faults c.tick-answer.new.port) c.tick-answer.result refl why in
     let marks : c.told_ticked-noted.result.items ≡ ticked_by passed c.tick-answer.result = c.told_ticked-noted.ensures ∙ ap (λ b. ticked_by b c.tick-answer.result)
-      ((λ i. not (c.rounds.ensures i == c.rounds-before.ensures i)) ∙ rounds_tell (view_of old.core) (view_of new.core) c.args.to (ap (λ (f : Face). f.rounds) is.answers.face_is)) in
+    ((λ i. not (c.rounds.ensures i == c.rounds-before.ensures i)) ∙ rounds_tell (view_of old.core) (view_of new.core) c.args.to (ap (λ (f : Face). f.rounds) is.answers.face_is)) in
     let told = c.told_entries-said.ensures ∙ ap (λ n. entries_of n c.told_tick-call.result.items c.did_of-did.result) c.take-held.ensures.of.1 in
     room_behind g.D.Disk.tells g.D.Disk.ports_fail (λ o. store_view o.engine) c.args.session.now.seat.me.0 c.take-held.new.session.seat.me.0 (store_view old) (store_view new) c.args.session.now.caller (Tick c.args.to)
     (result_err c.tick-answer.result) (ticked_face (view_of old.core) c.args.to) (ticked_by passed c.tick-answer.result) c.take-held.ensures.more c.take-held.ensures.since
@@ -48,9 +48,9 @@ give-requires-clause-since g c κs within =
     let why = is.why in
     let passed = passes (view_of old.core) c.args.to in
     let begun = begun_so (view_of old.core) c.args.to c.tick-answer.result c.take-held.ensures.sound.writable.count is.stopped is.backwards is.exhausted is.pinned g.D.Disk.tells g.D.Disk.ports_fail (view_of new.core)
-      (g.D.Disk.port_faults c.take-held.new.session.port) (g.D.Disk.port_faults c.tick-answer.new.port) c.tick-answer.result refl why in
+    (g.D.Disk.port_faults c.take-held.new.session.port) (g.D.Disk.port_faults c.tick-answer.new.port) c.tick-answer.result refl why in
     let marks : c.told_ticked-noted.result.items ≡ ticked_by passed c.tick-answer.result = c.told_ticked-noted.ensures ∙ ap (λ b. ticked_by b c.tick-answer.result)
-      ((λ i. not (c.rounds.ensures i == c.rounds-before.ensures i)) ∙ rounds_tell (view_of old.core) (view_of new.core) c.args.to (ap (λ (f : Face). f.rounds) is.answers.face_is)) in
+    ((λ i. not (c.rounds.ensures i == c.rounds-before.ensures i)) ∙ rounds_tell (view_of old.core) (view_of new.core) c.args.to (ap (λ (f : Face). f.rounds) is.answers.face_is)) in
     let told = c.told_entries-said.ensures ∙ ap (λ n. entries_of n c.told_tick-call.result.items c.did_of-did.result) c.take-held.ensures.of.1 in
     leads_behind g.D.Disk.tells g.D.Disk.ports_fail (λ o. store_view o.engine) c.args.session.now.seat.me.0 c.take-held.new.session.seat.me.0 (store_view old) (store_view new) c.args.session.now.caller (Tick c.args.to)
     (result_err c.tick-answer.result) (ticked_face (view_of old.core) c.args.to) (ticked_by passed c.tick-answer.result) c.take-held.ensures.more c.take-held.ensures.since
@@ -71,15 +71,18 @@ returns-clause-done g c =
     let why = is.why in
     let passed = passes (view_of old.core) c.args.to in
     let begun = begun_so (view_of old.core) c.args.to c.tick-answer.result c.take-held.ensures.sound.writable.count is.stopped is.backwards is.exhausted is.pinned g.D.Disk.tells g.D.Disk.ports_fail (view_of new.core)
-      (g.D.Disk.port_faults c.take-held.new.session.port) (g.D.Disk.port_faults c.tick-answer.new.port) c.tick-answer.result refl why in
+    (g.D.Disk.port_faults c.take-held.new.session.port) (g.D.Disk.port_faults c.tick-answer.new.port) c.tick-answer.result refl why in
     let marks : c.told_ticked-noted.result.items ≡ ticked_by passed c.tick-answer.result = c.told_ticked-noted.ensures ∙ ap (λ b. ticked_by b c.tick-answer.result)
-      ((λ i. not (c.rounds.ensures i == c.rounds-before.ensures i)) ∙ rounds_tell (view_of old.core) (view_of new.core) c.args.to (ap (λ (f : Face). f.rounds) is.answers.face_is)) in
-    let told = c.told_entries-said.ensures ∙ ap (λ n. entries_of n c.told_tick-call.result.items c.did_of-did.result) c.take-held.ensures.of.1 in
-    (passed, begun, done_so c.args.session.now.seat.me.0 c.take-held.new.session.seat.me.0 c.give.new.session.seat.me.0 (entries_by c.args.session.now.caller (Makes (Tick c.args.to)) (result_err c.tick-answer.result))
-    (ticked_by passed c.tick-answer.result) c.take-held.ensures.more
-    (knows_made g.D.Disk.tells g.D.Disk.ports_fail (λ o. store_view o.engine) c.args.session.now.seat.me.0 c.take-held.new.session.seat.me.0 (store_view old) (store_view new) c.args.session.now.caller (Tick c.args.to)
-    (result_err c.tick-answer.result) (ticked_face (view_of old.core) c.args.to) (ticked_by passed c.tick-answer.result) c.take-held.ensures.more c.take-held.ensures.since c.give.new.session.seat.me.0
-    c.told_entries-said.result.items c.told_tick-call.result.items c.did_of-did.result c.told_ticked-noted.result.items told c.told_tick-call.ensures (c.did_of-did.ensures (Tick c.args.to)) marks (ap (λ m. m.0) c.give.ensures.given)))
+    ((λ i. not (c.rounds.ensures i == c.rounds-before.ensures i)) ∙ rounds_tell (view_of old.core) (view_of new.core) c.args.to (ap (λ (f : Face). f.rounds) is.answers.face_is)) in
+    let told = c.told_entries-said.ensures ∙ ap (λ n. entries_of n c.told_tick-call.result.items c.did_of-did.result) c.take-held.ensures.of.1 in (
+      passed,
+      begun,
+      done_so c.args.session.now.seat.me.0 c.take-held.new.session.seat.me.0 c.give.new.session.seat.me.0 (entries_by c.args.session.now.caller (Makes (Tick c.args.to)) (result_err c.tick-answer.result))
+          (ticked_by passed c.tick-answer.result) c.take-held.ensures.more
+          (knows_made g.D.Disk.tells g.D.Disk.ports_fail (λ o. store_view o.engine) c.args.session.now.seat.me.0 c.take-held.new.session.seat.me.0 (store_view old) (store_view new) c.args.session.now.caller (Tick c.args.to)
+          (result_err c.tick-answer.result) (ticked_face (view_of old.core) c.args.to) (ticked_by passed c.tick-answer.result) c.take-held.ensures.more c.take-held.ensures.since c.give.new.session.seat.me.0
+          c.told_entries-said.result.items c.told_tick-call.result.items c.did_of-did.result c.told_ticked-noted.result.items told c.told_tick-call.ensures (c.did_of-did.ensures (Tick c.args.to)) marks (ap (λ m. m.0) c.give.ensures.given)),
+    )
 
 pub returns-clause-place : goal.returns-clause-place
 returns-clause-place g c =
@@ -89,9 +92,9 @@ returns-clause-place g c =
     let why = is.why in
     let passed = passes (view_of old.core) c.args.to in
     let begun = begun_so (view_of old.core) c.args.to c.tick-answer.result c.take-held.ensures.sound.writable.count is.stopped is.backwards is.exhausted is.pinned g.D.Disk.tells g.D.Disk.ports_fail (view_of new.core)
-      (g.D.Disk.port_faults c.take-held.new.session.port) (g.D.Disk.port_faults c.tick-answer.new.port) c.tick-answer.result refl why in
+    (g.D.Disk.port_faults c.take-held.new.session.port) (g.D.Disk.port_faults c.tick-answer.new.port) c.tick-answer.result refl why in
     let marks : c.told_ticked-noted.result.items ≡ ticked_by passed c.tick-answer.result = c.told_ticked-noted.ensures ∙ ap (λ b. ticked_by b c.tick-answer.result)
-      ((λ i. not (c.rounds.ensures i == c.rounds-before.ensures i)) ∙ rounds_tell (view_of old.core) (view_of new.core) c.args.to (ap (λ (f : Face). f.rounds) is.answers.face_is)) in
+    ((λ i. not (c.rounds.ensures i == c.rounds-before.ensures i)) ∙ rounds_tell (view_of old.core) (view_of new.core) c.args.to (ap (λ (f : Face). f.rounds) is.answers.face_is)) in
     let told = c.told_entries-said.ensures ∙ ap (λ n. entries_of n c.told_tick-call.result.items c.did_of-did.result) c.take-held.ensures.of.1 in
     tick_placed g.D.Disk.tells g.D.Disk.ports_fail (λ o. store_view o.engine) c.args.session.now.seat.me.0 c.take-held.new.session.seat.me.0 c.give.new.session.seat.me.0 (store_view old) (store_view new) c.args.session.now.caller c.args.to
     (ticked_by passed c.tick-answer.result) c.requires.ready.1 c.take-held.ensures.more c.take-held.ensures.since c.tick-answer.result
@@ -107,9 +110,9 @@ returns-clause-is_true g c =
     let why = is.why in
     let passed = passes (view_of old.core) c.args.to in
     let begun = begun_so (view_of old.core) c.args.to c.tick-answer.result c.take-held.ensures.sound.writable.count is.stopped is.backwards is.exhausted is.pinned g.D.Disk.tells g.D.Disk.ports_fail (view_of new.core)
-      (g.D.Disk.port_faults c.take-held.new.session.port) (g.D.Disk.port_faults c.tick-answer.new.port) c.tick-answer.result refl why in
+    (g.D.Disk.port_faults c.take-held.new.session.port) (g.D.Disk.port_faults c.tick-answer.new.port) c.tick-answer.result refl why in
     let marks : c.told_ticked-noted.result.items ≡ ticked_by passed c.tick-answer.result = c.told_ticked-noted.ensures ∙ ap (λ b. ticked_by b c.tick-answer.result)
-      ((λ i. not (c.rounds.ensures i == c.rounds-before.ensures i)) ∙ rounds_tell (view_of old.core) (view_of new.core) c.args.to (ap (λ (f : Face). f.rounds) is.answers.face_is)) in
+    ((λ i. not (c.rounds.ensures i == c.rounds-before.ensures i)) ∙ rounds_tell (view_of old.core) (view_of new.core) c.args.to (ap (λ (f : Face). f.rounds) is.answers.face_is)) in
     let told = c.told_entries-said.ensures ∙ ap (λ n. entries_of n c.told_tick-call.result.items c.did_of-did.result) c.take-held.ensures.of.1 in
     tick_true g.D.Disk.tells g.D.Disk.ports_fail (λ o. store_view o.engine) c.args.session.now.seat.me.0 c.take-held.new.session.seat.me.0 c.give.new.session.seat.me.0 (store_view old) (store_view new) c.args.session.now.caller c.args.to
     (ticked_by passed c.tick-answer.result) c.requires.ready.1 c.take-held.ensures.more c.take-held.ensures.since c.tick-answer.result
@@ -130,9 +133,9 @@ returns-clause-due g c =
     let why = is.why in
     let passed = passes (view_of old.core) c.args.to in
     let begun = begun_so (view_of old.core) c.args.to c.tick-answer.result c.take-held.ensures.sound.writable.count is.stopped is.backwards is.exhausted is.pinned g.D.Disk.tells g.D.Disk.ports_fail (view_of new.core)
-      (g.D.Disk.port_faults c.take-held.new.session.port) (g.D.Disk.port_faults c.tick-answer.new.port) c.tick-answer.result refl why in
+    (g.D.Disk.port_faults c.take-held.new.session.port) (g.D.Disk.port_faults c.tick-answer.new.port) c.tick-answer.result refl why in
     let marks : c.told_ticked-noted.result.items ≡ ticked_by passed c.tick-answer.result = c.told_ticked-noted.ensures ∙ ap (λ b. ticked_by b c.tick-answer.result)
-      ((λ i. not (c.rounds.ensures i == c.rounds-before.ensures i)) ∙ rounds_tell (view_of old.core) (view_of new.core) c.args.to (ap (λ (f : Face). f.rounds) is.answers.face_is)) in
+    ((λ i. not (c.rounds.ensures i == c.rounds-before.ensures i)) ∙ rounds_tell (view_of old.core) (view_of new.core) c.args.to (ap (λ (f : Face). f.rounds) is.answers.face_is)) in
     let told = c.told_entries-said.ensures ∙ ap (λ n. entries_of n c.told_tick-call.result.items c.did_of-did.result) c.take-held.ensures.of.1 in
     let leads = subst (λ m. IsLedTo (λ o. store_view o.engine) (Since g.D.Disk.tells g.D.Disk.ports_fail) m.0 (store_view new)) (sym c.give.ensures.given)
     (leads_behind g.D.Disk.tells g.D.Disk.ports_fail (λ o. store_view o.engine) c.args.session.now.seat.me.0 c.take-held.new.session.seat.me.0 (store_view old) (store_view new) c.args.session.now.caller (Tick c.args.to)
@@ -150,9 +153,9 @@ returns-clause-why g c =
     let why = is.why in
     let passed = passes (view_of old.core) c.args.to in
     let begun = begun_so (view_of old.core) c.args.to c.tick-answer.result c.take-held.ensures.sound.writable.count is.stopped is.backwards is.exhausted is.pinned g.D.Disk.tells g.D.Disk.ports_fail (view_of new.core)
-      (g.D.Disk.port_faults c.take-held.new.session.port) (g.D.Disk.port_faults c.tick-answer.new.port) c.tick-answer.result refl why in
+    (g.D.Disk.port_faults c.take-held.new.session.port) (g.D.Disk.port_faults c.tick-answer.new.port) c.tick-answer.result refl why in
     let marks : c.told_ticked-noted.result.items ≡ ticked_by passed c.tick-answer.result = c.told_ticked-noted.ensures ∙ ap (λ b. ticked_by b c.tick-answer.result)
-      ((λ i. not (c.rounds.ensures i == c.rounds-before.ensures i)) ∙ rounds_tell (view_of old.core) (view_of new.core) c.args.to (ap (λ (f : Face). f.rounds) is.answers.face_is)) in
+    ((λ i. not (c.rounds.ensures i == c.rounds-before.ensures i)) ∙ rounds_tell (view_of old.core) (view_of new.core) c.args.to (ap (λ (f : Face). f.rounds) is.answers.face_is)) in
     let told = c.told_entries-said.ensures ∙ ap (λ n. entries_of n c.told_tick-call.result.items c.did_of-did.result) c.take-held.ensures.of.1 in
     let leads = subst (λ m. IsLedTo (λ o. store_view o.engine) (Since g.D.Disk.tells g.D.Disk.ports_fail) m.0 (store_view new)) (sym c.give.ensures.given)
     (leads_behind g.D.Disk.tells g.D.Disk.ports_fail (λ o. store_view o.engine) c.args.session.now.seat.me.0 c.take-held.new.session.seat.me.0 (store_view old) (store_view new) c.args.session.now.caller (Tick c.args.to)
