@@ -1,11 +1,12 @@
 -- What a session knows after its ticks.
-use Rattle.std.proofs.Common.{◌≡◌, ◌≤◌, ◌<◌, inl, inr, ℕ, ◌+◌, Bool, true, false, if◌then◌else◌, List, [], ◌∷◌, ◌++◌, length, map, Option, Some, None, Result, Ok, Err, refl, sym, ap, ◌∙◌, subst, arith, append-nil, append_assoc}
-use Rattle.std.specs.Prelude.{All, IfErr, IfOk, IfSome, IsErrOf, MatchResult, option_to_list, unwrap_or}
+use Rattle.std.proofs.Common.{◌≡◌, ◌≢◌, ◌≤◌, ◌<◌, inl, inr, ℕ, ◌+◌, Bool, true, false, if◌then◌else◌, List, [], ◌∷◌, ◌++◌, length, map, Option, Some, None, Result, Ok, Err, refl, sym, ap, ◌∙◌, subst, arith, append-nil, append_assoc}
+use Rattle.std.specs.Prelude.{◌⊎◌, All, Contains, IfErr, IfOk, IfSome, IsErrOf, MatchResult, option_to_list, unwrap_or}
 use Rattle.std.specs.Result.{result_err}
 use Rattle.std.proofs.lemmas.List.{length-append, map-append}
-use Rattle.std.proofs.lemmas.List.Elements.{All-head, All-nil, All-cons}
+use Rattle.std.proofs.lemmas.List.Elements.{All-head, All-nil, All-cons, Contains-append_cases}
 use Rattle.lethe_base.specs.Counts.{Rose}
 use Rattle.lethe_base.specs.History.{History}
+use Rattle.lethe_base.specs.Limits.{max_place}
 use Rattle.lethe_base.specs.declared.call.Call.{Call}
 use Rattle.lethe_base.specs.declared.call.Call.TheVariants.{Put, Delete, Erase, Tick, Work}
 use Rattle.lethe_base.specs.declared.call.Did.{Did}
@@ -16,6 +17,7 @@ use Rattle.lethe_base.specs.declared.refused.Refused.{Refused}
 use Rattle.lethe_base.specs.declared.refused.Refused.TheVariants.{Fault, Stopped, Backwards, Pinned, NothingDue, Cancelled, Exhausted, ReadFault, NoMemory, Damaged}
 use Rattle.lethe_cert.specs.declared.certificate.Certificate.{Certificate}
 use Rattle.lethe_core.specs.Asked.{Makes, behind}
+use Rattle.lethe_core.specs.Running.{IsSound}
 use Rattle.lethe_core.specs.View as core
 use Rattle.lethe_core.specs.View.{Face, Limited, face_of, limited_of}
 use Rattle.lethe_cover.specs.Steps.{with_done}
@@ -32,18 +34,21 @@ use Rattle.lethe_state.specs.Clock.{Clock, clock_of}
 use Rattle.lethe_turn.specs.Seats.{HasSeenMore, count_of, entered, passed_noting}
 use Rattle.lethe_store.specs.declared.entry.Entry.{Entry}
 use Rattle.lethe_store.specs.declared.entry.Mark.{Mark}
-use Rattle.lethe_store.specs.Diary.{AreNumbered, IsCertifiedAt, IsHeldBehind, answered_in, certified_in, face_along, limited, made_in}
-use Rattle.lethe_store.specs.DiaryLaws.{held_along}
-use Rattle.lethe_store.specs.Entries.{change_of, changes_of, clock_along, clock_by, entries_by}
-use Rattle.lethe_store.specs.Laws.{IsFirstFailure, IsNoted, stands_along}
-use Rattle.lethe_store.specs.Reasons.{PortCounts}
+use Rattle.lethe_store.specs.declared.entry.Mark.TheVariants.{Round, Certified, Spent}
+use Rattle.lethe_store.specs.Diary.{AreNumbered, IsCertifiedAt, IsHeldBehind, IsSpent, answered_in, certified_in, face_along, limited, made_in, spent_by}
+use Rattle.lethe_store.specs.DiaryLaws.{held_along, rounds_rise, spent_either}
+use Rattle.lethe_store.specs.Entries.{change_of, changes_of, clock_along, clock_by, entries_by, stopped_behind}
+use Rattle.lethe_store.specs.Laws.{IsFirstFailure, IsNoted, none_spent, nothing_noted, stands_along}
+use Rattle.lethe_store.specs.Reads.{IsClockSeen}
+use Rattle.lethe_store.specs.Reasons.{IsStoppedAt, PortCounts}
 use Rattle.lethe_store.specs.Sessions.{KnowsOpened}
-use Rattle.lethe_store.specs.Since.{all_counted}
+use Rattle.lethe_store.specs.Since.{Since, all_counted}
 use Rattle.lethe_store.specs.StoreViews.{StoreView}
 use Rattle.lethe_store.specs.Ticks.{HasReasonOfTick, HoldsPin, IsBegunBy, IsCertifiedFrom, IsTrueOf, answered_at, certified_at, ticked_by}
 use Rattle.lethe_store.proofs.Behind.{Knows, Leads, counts_seen}
 use Rattle.lethe_store.proofs.Placed.{placed_last}
 use Rattle.lethe_store.proofs.Seats.{knows_after}
+use Rattle.lethe_store.proofs.Spent.{tick_at}
 
 -- a tick in which the disk failed is the first change that did, and has the next place
 pub first_failure_of_tick : (Tells PortsFail : Type 0) (to : ℕ) (old new : core.View) (before now : ℕ) (result : Result Ticked Refused) → IfErr result (engine.HasReasonOfTick Tells PortsFail to old new before now)
@@ -69,7 +74,7 @@ first_failure_of_tick Tells PortsFail to old new before now (Err why) reason = b
 -- The marks of a tick
 
 face_noted : (face : Face) (result : Result Ticked Refused) → face_along face (answered_at result) ≡ face
-face_noted face (Err why) = refl
+face_noted face (Err why) = spent_either (λ l. face_along face l ≡ face) (Some why) refl (λ last is. refl)
 face_noted face (Ok told) = by told.certificate
   where
     by : (answer : Option Certificate) → face_along face (certified_at told.place answer) ≡ face
@@ -77,18 +82,29 @@ face_noted face (Ok told) = by told.certificate
     by (Some certificate) = refl
 
 made_none : (result : Result Ticked Refused) → made_in (answered_at result) ≡ []
-made_none (Err why) = refl
+made_none (Err why) = spent_either (λ l. made_in l ≡ []) (Some why) refl (λ last is. refl)
 made_none (Ok told) = by told.certificate
   where
     by : (answer : Option Certificate) → made_in (certified_at told.place answer) ≡ []
     by None = refl
     by (Some certificate) = refl
 
+answered_none : (why : Refused) → answered_in (spent_by (Some why)) ≡ []
+answered_none why = spent_either (λ l. answered_in l ≡ []) (Some why) refl (λ last is. refl)
+
 answered_is : (place : ℕ) (answer : Option Certificate) → answered_in (certified_at place answer) ≡ option_to_list answer
 answered_is place None = refl
 answered_is place (Some certificate) = refl
 
-module _ (Tells : Type 0) (caller to : ℕ) (old new : StoreView) (directory : Directory) (result : Result Ticked Refused) (begun : IsBegunBy (passes old.view to) result)
+unspent : (place : ℕ) (answer : Option Certificate) → Contains (certified_at place answer) Spent → ⊥
+unspent place None has = nothing_noted has
+unspent place (Some certificate) has = none_spent (Certified place certificate) (λ is. cc) has
+
+none_certified : (P : ℕ × Certificate → Type 0) (why : Refused) → All P (certified_in (spent_by (Some why)))
+none_certified P why = spent_either (λ l. All P (certified_in l)) (Some why) (All-nil P) (λ last is. All-nil P)
+
+module _ (Tells PortsFail : Type 0) (before now : ℕ) (caller to : ℕ) (old new : StoreView) (directory : Directory) (result : Result Ticked Refused) (sound : IsSound Tells old.view)
+    (reason : IfErr result (engine.HasReasonOfTick Tells PortsFail to old.view new.view before now)) (begun : IsBegunBy (passes old.view to) result)
     (answers : Answers Tells (Makes (Tick to)) (result_err result) (ticked_face old.view to) old.view new.view)
     (place : IfOk result (λ told. (told.place ≡ old.view.state.count + 1) × (told.clock ≡ to))) (due : IfOk result (λ told. IsCertificateAt new.view.state.manifest.config.threshold to told.certificate))
     (kept : MatchResult result (λ told. new.certificates ≡ old.certificates ++ option_to_list told.certificate) (λ why. new.certificates ≡ old.certificates))
@@ -97,18 +113,18 @@ module _ (Tells : Type 0) (caller to : ℕ) (old new : StoreView) (directory : D
     → StandsFor config opened (behind h caller (Makes (Tick to)) (result_err result)) new.view (answered ++ answered_by result)) where
   face_by_passing : (passed : Bool) → face_of new.view ≡ (if passed then record (face_of old.view) { rounds = old.view.rounds + 1; flights = [] } else face_of old.view) → face_of new.view ≡ face_along (face_of old.view) (ticked_by passed result)
   face_by_passing true is = is ∙ sym (face_noted (record (face_of old.view) { rounds = old.view.rounds + 1; flights = [] }) result)
-  face_by_passing false is = is
+  face_by_passing false is = is ∙ sym (face_noted (face_of old.view) result)
 
   none_made : (passed : Bool) → made_in (ticked_by passed result) ≡ []
   none_made true = made_none result
-  none_made false = refl
+  none_made false = made_none result
 
   kept_by : (passed : Bool) (answer : Result Ticked Refused) → IsBegunBy passed answer → MatchResult answer (λ told. new.certificates ≡ old.certificates ++ option_to_list told.certificate) (λ why. new.certificates ≡ old.certificates)
       → new.certificates ≡ old.certificates ++ answered_in (ticked_by passed answer)
   kept_by true (Ok told) is kept = kept ∙ ap (λ l. old.certificates ++ l) (sym (answered_is told.place told.certificate))
   kept_by false (Ok told) is kept = let clash : false ≡ true = is in cc
-  kept_by true (Err why) is kept = kept ∙ sym (append-nil old.certificates)
-  kept_by false (Err why) is kept = kept ∙ sym (append-nil old.certificates)
+  kept_by true (Err why) is kept = kept ∙ sym (append-nil old.certificates) ∙ ap (λ l. old.certificates ++ l) (sym (answered_none why))
+  kept_by false (Err why) is kept = kept ∙ sym (append-nil old.certificates) ∙ ap (λ l. old.certificates ++ l) (sym (answered_none why))
 
   -- its certificate stands, by its own place
   stands_at : Tells → (config : Fields) (opened : Opened) (h : History) → StandsSince config opened h old.view → (told : Ticked) → result ≡ Ok told → (answer : Option Certificate) → told.certificate ≡ answer
@@ -134,9 +150,30 @@ module _ (Tells : Type 0) (caller to : ℕ) (old new : StoreView) (directory : D
 
   certified_by_passing : Tells → (config : Fields) (opened : Opened) (h : History) → StandsSince config opened h old.view → (passed : Bool) → (answer : Result Ticked Refused) → result ≡ answer
       → All (IsCertifiedAt config opened (behind h caller (Makes (Tick to)) (result_err answer)) new.view) (certified_in (ticked_by passed answer))
-  certified_by_passing tells config opened h s false answer is = All-nil (IsCertifiedAt config opened (behind h caller (Makes (Tick to)) (result_err answer)) new.view)
-  certified_by_passing tells config opened h s true (Err why) is = All-nil (IsCertifiedAt config opened (behind h caller (Makes (Tick to)) (Some why)) new.view)
+  certified_by_passing tells config opened h s false (Err why) is = none_certified (IsCertifiedAt config opened (behind h caller (Makes (Tick to)) (Some why)) new.view) why
+  certified_by_passing tells config opened h s true (Err why) is = none_certified (IsCertifiedAt config opened (behind h caller (Makes (Tick to)) (Some why)) new.view) why
+  certified_by_passing tells config opened h s false (Ok told) is = stands_at tells config opened h s told is told.certificate refl
   certified_by_passing tells config opened h s true (Ok told) is = stands_at tells config opened h s told is told.certificate refl
+
+  -- where it notes that numbers are used up it was refused for that
+  spent_noted : (passed : Bool) → face_of new.view ≡ face_along (face_of old.view) (ticked_by passed result) → (answer : Result Ticked Refused) → result ≡ answer → Contains (ticked_by passed answer) Spent → IsSpent Tells old new
+  spent_noted false face (Ok told) is has = absurd (unspent told.place told.certificate has)
+  spent_noted true face (Ok told) is has = absurd (elim (Contains-append_cases (Round ∷ []) (certified_at told.place told.certificate) Spent has) as (λ _. ⊥) [ inl first ↦ none_spent Round (λ is. cc) first | inr rest ↦ unspent told.place told.certificate rest ])
+  spent_noted passed face (Err why) is has = spent_err passed face why is (err_spent passed why has)
+    where
+      -- it stands among what the refusal notes
+      err_spent : (passed : Bool) (why : Refused) → Contains (ticked_by passed (Err why)) Spent → Contains (spent_by (Some why)) Spent
+      err_spent false why has = has
+      err_spent true why has = elim (Contains-append_cases (Round ∷ []) (spent_by (Some why)) Spent has) [ inl first ↦ absurd (none_spent Round (λ is. cc) first) | inr rest ↦ rest ]
+
+      spent_err : (passed : Bool) → face_of new.view ≡ face_along (face_of old.view) (ticked_by passed result) → (why : Refused) → result ≡ Err why → Contains (spent_by (Some why)) Spent → IsSpent Tells old new
+      spent_err passed face why is = spent_either (λ l. Contains l Spent → IsSpent Tells old new) (Some why) (λ has. absurd (nothing_noted has))
+          (λ last same has.
+          let e : why ≡ Exhausted last = ap (λ o. unwrap_or o why) same in
+          let risen : old.view.rounds ≤ new.view.rounds = (let r = ap (λ (f : Face). f.rounds) face in let n = rounds_rise (face_of old.view) (ticked_by passed result) in omega (arith, r, n)) in
+          tick_at Tells PortsFail old new to (ticked_face old.view to) before now sound risen last
+          (subst (λ r. Answers Tells (Makes (Tick to)) (result_err r) (ticked_face old.view to) old.view new.view) (is ∙ ap Err e) answers)
+          (subst (λ r. IfErr r (engine.HasReasonOfTick Tells PortsFail to old.view new.view before now)) (is ∙ ap Err e) reason))
 
   -- what a tick notes is what it says of its face and its certificates
   pub noted_tick : IsNoted Tells caller (Makes (Tick to)) (result_err result) (ticked_by (passes old.view to) result) old new
@@ -145,6 +182,7 @@ module _ (Tells : Type 0) (caller to : ℕ) (old new : StoreView) (directory : D
     numbered = subst (AreNumbered (old.view.pins.made + 1)) (sym (none_made (passes old.view to))) tt;
     certificates = kept_by (passes old.view to) result begun kept;
     certified = λ tells config opened h s. certified_by_passing tells config opened h s (passes old.view to) result refl;
+    spent = spent_noted (passes old.view to) (face_by_passing (passes old.view to) answers.face_is) result refl;
   }
 
 -- What a session knows then

@@ -1,15 +1,17 @@
 -- What follows from a diary: how many pins were made, and that each held pin was held at the opening or made since, and not let go behind that.
-use Rattle.std.proofs.Common.{◌≡◌, ◌≢◌, inl, inr, ℕ, ◌+◌, Bool, true, false, not, List, [], ◌∷◌, ◌++◌, length, cond, map, refl, sym, ap, ◌∙◌, subst, arith}
+use Rattle.std.proofs.Common.{◌≡◌, ◌≢◌, inl, inr, ◌<◌, ◌≤◌, Option, Some, None, ℕ, ◌+◌, Bool, true, false, not, List, [], ◌∷◌, ◌++◌, length, cond, map, refl, sym, ap, ◌∙◌, subst, arith, append-nil}
 use Rattle.std.specs.Prelude.{◌⊎◌, ◌==◌, All, Contains, filter, nat_lt}
 use Rattle.std.proofs.lemmas.List.{map-append}
 use Rattle.std.proofs.lemmas.List.Elements.{All-cons, All-contains, All-contains_itself, All-filter, All-head, All-nil, All-tail, All-weaker, filter_map-append, filter_passes}
 use Rattle.std.proofs.lemmas.Bool.{eq-eqb}
+use Rattle.lethe_base.specs.declared.refused.Refused.{Refused}
+use Rattle.lethe_base.specs.declared.refused.Refused.TheVariants.{Fault, Stopped, Backwards, Pinned, NothingDue, Cancelled, Exhausted, ReadFault, NoMemory, Damaged}
 use Rattle.lethe_cert.specs.declared.certificate.Certificate.{Certificate}
 use Rattle.lethe_pins.specs.Held.{placed_by}
 use Rattle.lethe_core.specs.View.{Face, Limited}
 use Rattle.lethe_store.specs.declared.entry.Mark.{Mark}
-use Rattle.lethe_store.specs.declared.entry.Mark.TheVariants.{Round, Certified, Made, Released}
-use Rattle.lethe_store.specs.Diary.{AreNumbered, IsHeldBehind, IsUnreleased, answered_in, certified_by, certified_in, face_along, face_by, limited, made_by, made_in}
+use Rattle.lethe_store.specs.declared.entry.Mark.TheVariants.{Round, Certified, Made, Released, Spent}
+use Rattle.lethe_store.specs.Diary.{AreNumbered, IsHeldBehind, IsUnreleased, answered_in, certified_by, certified_in, face_along, face_by, limited, made_by, made_in, spent_by}
 
 pub made-append : (a b : List Mark) → made_in (a ++ b) ≡ made_in a ++ made_in b
 made-append a b = filter_map-append made_by a b
@@ -34,6 +36,30 @@ made_along face (Made number limit ∷ marks) are =
     let rest = made_along (face_by face (Made number limit)) marks (subst (λ n. AreNumbered (n + 1) (made_in marks)) (sym n) are.1) in
     rest ∙ (let e : number + length (made_in marks) ≡ face.made + length (limited number limit ∷ made_in marks) = omega arith in e)
 made_along face (Released number ∷ marks) are = made_along (face_by face (Released number)) marks are
+made_along face (Spent ∷ marks) are = made_along face marks are
+
+-- no mark takes a round back
+pub rounds_rise : (face : Face) (marks : List Mark) → face.rounds ≤ (face_along face marks).rounds
+rounds_rise face [] = omega arith
+rounds_rise face (Round ∷ marks) = let rest = rounds_rise (face_by face Round) marks in omega (arith, rest)
+rounds_rise face (Certified place certificate ∷ marks) = rounds_rise face marks
+rounds_rise face (Made number limit ∷ marks) = rounds_rise (face_by face (Made number limit)) marks
+rounds_rise face (Released number ∷ marks) = rounds_rise (face_by face (Released number)) marks
+rounds_rise face (Spent ∷ marks) = rounds_rise face marks
+
+-- what holds of no mark and of one that numbers are used up holds of what a refusal notes
+pub spent_either : (P : List Mark → Type 0) (why : Option Refused) → P [] → ((last : ℕ) → why ≡ Some (Exhausted last) → P (Spent ∷ [])) → P (spent_by why)
+spent_either P None none one = none
+spent_either P (Some (Exhausted last)) none one = one last refl
+spent_either P (Some (Fault place before after)) none one = none
+spent_either P (Some (Stopped at)) none one = none
+spent_either P (Some (Backwards clock)) none one = none
+spent_either P (Some (Pinned pin limit)) none one = none
+spent_either P (Some NothingDue) none one = none
+spent_either P (Some (Cancelled begun other)) none one = none
+spent_either P (Some (ReadFault before after)) none one = none
+spent_either P (Some NoMemory) none one = none
+spent_either P (Some (Damaged name)) none one = none
 
 -- Held pins
 
@@ -72,6 +98,7 @@ released_number Round = 0
 released_number (Certified place certificate) = 0
 released_number (Made number limit) = 0
 released_number (Released number) = number
+released_number Spent = 0
 
 held_released : (face : Face) (number : ℕ) (marks : List Mark) (pin : Limited) → IsHeldBehind (face_by face (Released number)).held marks pin → WasHeld face (Released number) marks pin
 held_released face number marks pin (inr (before, behind, is, unreleased)) = inr (Released number ∷ before, behind, ap (λ l. Released number ∷ l) is, unreleased)
@@ -86,6 +113,7 @@ pub held_along : (face : Face) (marks : List Mark) → All (IsHeldBehind face.he
 held_along face [] = All-weaker (Contains face.held) (IsHeldBehind face.held []) (λ pin has. inl (has, All-nil (λ mark. mark ≢ Released pin.number))) face.held (All-contains_itself face.held)
 held_along face (Round ∷ marks) = All-weaker (IsHeldBehind face.held marks) (WasHeld face Round marks) (λ pin. held_still face Round marks pin (λ is. cc)) (face_along (face_by face Round) marks).held (held_along (face_by face Round) marks)
 held_along face (Certified place certificate ∷ marks) = All-weaker (IsHeldBehind face.held marks) (WasHeld face (Certified place certificate) marks) (λ pin. held_still face (Certified place certificate) marks pin (λ is. cc)) (face_along face marks).held (held_along face marks)
+held_along face (Spent ∷ marks) = All-weaker (IsHeldBehind face.held marks) (WasHeld face Spent marks) (λ pin. held_still face Spent marks pin (λ is. cc)) (face_along face marks).held (held_along face marks)
 held_along face (Made number limit ∷ marks) =
     All-weaker (IsHeldBehind (face_by face (Made number limit)).held marks) (WasHeld face (Made number limit) marks) (held_made face number limit marks) (face_along (face_by face (Made number limit)) marks).held (held_along (face_by face (Made number limit)) marks)
 held_along face (Released number ∷ marks) =

@@ -1,10 +1,10 @@
 -- The laws of the log of changes: each call keeps what became of the opened store.
-use Rattle.std.proofs.Common.{◌≡◌, ℕ, ◌+◌, List, [], ◌∷◌, ◌++◌, length, Option, Some, None, Result, Ok, Err, refl, sym, ap, ◌∙◌, subst, arith, append-nil, append_assoc}
-use Rattle.std.specs.Prelude.{All, option_map}
+use Rattle.std.proofs.Common.{◌≡◌, ◌≢◌, ◌≤◌, inl, inr, ℕ, ◌+◌, List, [], ◌∷◌, ◌++◌, length, Option, Some, None, Result, Ok, Err, refl, sym, ap, ◌∙◌, subst, arith, append-nil, append_assoc}
+use Rattle.std.specs.Prelude.{All, Contains, option_map}
 use Rattle.std.specs.Option.{option_map_or, option_or}
 use Rattle.std.specs.Result.{result_err}
 use Rattle.std.proofs.lemmas.List.{length-append, map-append}
-use Rattle.std.proofs.lemmas.List.Elements.{All-append, All-map, All-nil, All-weaker}
+use Rattle.std.proofs.lemmas.List.Elements.{All-append, All-cons, All-contains, All-map, All-nil, All-weaker, Contains-append_cases}
 use Rattle.std.proofs.lemmas.List.Sums.{fold-append}
 use Rattle.lethe_base.specs.History.{History}
 use Rattle.lethe_base.specs.declared.call.Call.{Call}
@@ -12,7 +12,7 @@ use Rattle.lethe_base.specs.declared.call.Call.TheVariants.{Put, Delete, Erase, 
 use Rattle.lethe_base.specs.declared.call.Did.TheVariants.{Failed}
 use Rattle.lethe_base.specs.declared.config.Fields.{Fields}
 use Rattle.lethe_base.specs.declared.refused.Refused.{Refused}
-use Rattle.lethe_base.specs.declared.refused.Refused.TheVariants.{NoMemory}
+use Rattle.lethe_base.specs.declared.refused.Refused.TheVariants.{Exhausted, NoMemory}
 use Rattle.lethe_cert.specs.declared.certificate.Certificate.{Certificate}
 use Rattle.lethe_core.specs.Asked.{Asked, Makes, Serves, Failure, behind, clock_behind, counted, failure_of, stopped_by}
 use Rattle.lethe_core.specs.Running.{IsSound}
@@ -25,10 +25,11 @@ use Rattle.lethe_engine.specs.StandsFor.{IsCertified, IsCertifiedBy, Opened, Sta
 use Rattle.lethe_state.specs.Clock.{Clock, clock_of}
 use Rattle.lethe_store.specs.declared.entry.Entry.{Entry}
 use Rattle.lethe_store.specs.declared.entry.Mark.{Mark}
+use Rattle.lethe_store.specs.declared.entry.Mark.TheVariants.{Spent}
 use Rattle.lethe_store.specs.StoreViews.{StoreView, IsSameStore, failure_in}
 use Rattle.lethe_store.specs.Entries.{change_of, changes_of, clock_along, clock_by, entries_by, entries_of, failed_at, stopped_behind}
-use Rattle.lethe_store.specs.Diary.{AreNumbered, Diary, IsCertifiedAt, answered_in, certified_in, face_along, face_by, made_in}
-use Rattle.lethe_store.specs.DiaryLaws.{answered-append, certified-append, made-append, made_along, numbered-append}
+use Rattle.lethe_store.specs.Diary.{AreNumbered, Diary, IsCertifiedAt, IsSpent, answered_in, certified_in, face_along, face_by, made_in, spent_by}
+use Rattle.lethe_store.specs.DiaryLaws.{answered-append, certified-append, made-append, made_along, numbered-append, rounds_rise, spent_either}
 use Rattle.lethe_store.specs.Since.{AnyMarks, Since}
 
 -- What is entered of a call is what the call says of the history, of the count, of what stopped the store, and of the clock
@@ -142,6 +143,14 @@ pub record IsNoted (Tells : Type 0) (caller : ℕ) (asked : Asked) (why : Option
   pub numbered : AreNumbered (old.view.pins.made + 1) (made_in more)
   pub certificates : new.certificates ≡ old.certificates ++ answered_in more
   pub certified : Tells → (config : Fields) (opened : Opened) (h : History) → StandsSince config opened h old.view → All (IsCertifiedAt config opened (behind h caller asked why) new.view) (certified_in more)
+  pub spent : Contains more Spent → IsSpent Tells old new
+
+pub nothing_noted : Contains [] Spent → ⊥
+nothing_noted has = let few = has.1 in omega (arith, few)
+
+-- one other mark isn't that numbers are used up
+pub none_spent : (mark : Mark) → mark ≢ Spent → Contains (mark ∷ []) Spent → ⊥
+none_spent mark other has = All-contains (λ m. m ≢ Spent) (mark ∷ []) Spent (All-cons (λ m. m ≢ Spent) mark [] other (All-nil (λ m. m ≢ Spent))) has refl
 
 -- a call that notes none leaves both
 pub noted_none : (Tells : Type 0) (caller : ℕ) (asked : Asked) (why : Option Refused) (old new : StoreView) → face_of new.view ≡ face_of old.view → new.certificates ≡ old.certificates → IsNoted Tells caller asked why [] old new
@@ -150,6 +159,19 @@ noted_none Tells caller asked why old new face certificates = record {
   numbered = tt;
   certificates = certificates ∙ sym (append-nil old.certificates);
   certified = λ told config opened h s. All-nil (IsCertifiedAt config opened (behind h caller asked why) new.view);
+  spent = λ has. absurd (nothing_noted has);
+}
+
+-- a call that leaves face and certificates notes at most that numbers are used up
+pub noted_spent : (Tells : Type 0) (caller : ℕ) (asked : Asked) (why : Option Refused) (old new : StoreView) → face_of new.view ≡ face_of old.view → new.certificates ≡ old.certificates
+    → ((last : ℕ) → why ≡ Some (Exhausted last) → IsSpent Tells old new) → IsNoted Tells caller asked why (spent_by why) old new
+noted_spent Tells caller asked why old new face certificates spent = record {
+  face = spent_either (λ l. face_of new.view ≡ face_along (face_of old.view) l) why face (λ last is. face);
+  numbered = spent_either (λ l. AreNumbered (old.view.pins.made + 1) (made_in l)) why tt (λ last is. tt);
+  certificates = spent_either (λ l. new.certificates ≡ old.certificates ++ answered_in l) why (certificates ∙ sym (append-nil old.certificates)) (λ last is. certificates ∙ sym (append-nil old.certificates));
+  certified = λ told config opened h s. spent_either (λ l. All (IsCertifiedAt config opened (behind h caller asked why) new.view) (certified_in l)) why (All-nil (IsCertifiedAt config opened (behind h caller asked why) new.view))
+      (λ last is. All-nil (IsCertifiedAt config opened (behind h caller asked why) new.view));
+  spent = spent_either (λ l. Contains l Spent → IsSpent Tells old new) why (λ has. absurd (nothing_noted has)) (λ last is has. spent last is);
 }
 
 module _ (Tells PortsFail : Type 0) (o old : StoreView) (entries : List Entry) (marks : List Mark) (since : Since Tells PortsFail o entries marks old) where
@@ -168,6 +190,9 @@ module _ (Tells PortsFail : Type 0) (o old : StoreView) (entries : List Entry) (
     -- what a crash at an earlier moment may leave is as it was
     calls_behind : Tells → (config : Fields) (opened : Opened) (h : History) → StandsSince config opened (h ++ changes_of entries) old.view → Continues old.view.disk new.view.disk
     calls_behind told config opened h s = let goes = answers.goes told config opened (h ++ changes_of entries) s caller in record { later = goes.later; past = goes.past }
+
+    counts_more : new.view.state.count ≡ old.view.state.count + length said
+    counts_more = answers.count ∙ counted_is caller asked why old.view.state.count
 
     abbrev grown : History → History
     grown h = behind (h ++ changes_of entries) caller asked why
@@ -197,6 +222,22 @@ module _ (Tells PortsFail : Type 0) (o old : StoreView) (entries : List Entry) (
               (All-append P (answered ++ answered_in marks) (answered_in more) carried.certified added);
         }
 
+    -- numbers that are used up stay so
+    spent_on : IsSpent Tells o old → IsSpent Tells o new
+    spent_on (inl full) = inl (let more = counts_more in let most = answers.sound.writable.count in omega (arith, full, more, most))
+    spent_on (inr (inl full)) = inr (inl (let more = ap (λ (f : Face). f.made) noted.face ∙ made_along (face_of old.view) more noted.numbered in let most = answers.sound.pins.made in omega (arith, full, more, most)))
+    spent_on (inr (inr (inl full))) = inr (inr (inl (let is = ap (λ (f : Face). f.rounds) noted.face in let rise = rounds_rise (face_of old.view) more in omega (arith, full, is, rise))))
+    spent_on (inr (inr (inr short))) = inr (inr (inr (λ told config opened h s. let was = short told config opened h s in let more = counts_more in let drawn = answers.drawn in omega (arith, was, more, drawn))))
+
+    spent_since : IsSpent Tells old new → IsSpent Tells o new
+    spent_since (inl full) = inl full
+    spent_since (inr (inl full)) = inr (inl full)
+    spent_since (inr (inr (inl full))) = inr (inr (inl full))
+    spent_since (inr (inr (inr short))) = inr (inr (inr (λ told config opened h s. short told config opened (h ++ changes_of entries) (stands_along told config opened h s))))
+
+    spent_behind : Contains (marks ++ more) Spent → IsSpent Tells o new
+    spent_behind has = elim (Contains-append_cases marks more Spent has) [ inl before ↦ spent_on (since.diary.spent before) | inr now ↦ spent_since (noted.spent now) ]
+
     -- the diary with the call's own marks
     diary_behind : Diary Tells o (entries ++ said) (marks ++ more) new
     diary_behind = record {
@@ -208,6 +249,7 @@ module _ (Tells PortsFail : Type 0) (o old : StoreView) (entries : List Entry) (
       certificates = noted.certificates ∙ ap (λ l. l ++ answered_in more) since.diary.certificates ∙ append_assoc o.certificates (answered_in marks) (answered_in more)
           ∙ ap (λ l. o.certificates ++ l) (sym (answered-append marks more));
       certified = λ told config opened h s. subst (λ l. All (IsCertifiedAt config opened l new.view) (certified_in (marks ++ more))) (history_is h) (placed_behind told config opened h s);
+      spent = spent_behind;
     }
 
     -- the store behind a call is what became of the opened one by the call's own entry and its own marks
@@ -241,12 +283,13 @@ since_opened Tells PortsFail o sound = record {
     numbered = tt;
     certificates = sym (append-nil o.certificates);
     certified = λ told config opened h s. All-nil (IsCertifiedAt config opened (h ++ []) o.view);
+    spent = λ has. absurd (nothing_noted has);
   };
   stands = λ told config opened h answered s. subst (λ l. StandsFor config opened (h ++ []) o.view l) (sym (append-nil answered)) (subst (λ l. StandsFor config opened l o.view answered) (sym (append-nil h)) s);
   calls = λ told config opened h s. continues_itself o.view.disk;
 }
 
-nothing_said : (caller : ℕ) (why : Option Refused) → failure_in why ≡ None → entries_by caller (Serves Work) why ≡ []
+pub nothing_said : (caller : ℕ) (why : Option Refused) → failure_in why ≡ None → entries_by caller (Serves Work) why ≡ []
 nothing_said caller None unfailed = refl
 nothing_said caller (Some why) unfailed = ap (λ o. entries_of caller (Work ∷ []) (option_map (λ failure. Failed failure.before failure.after) o)) unfailed
 

@@ -16,13 +16,13 @@ use Rattle.lethe_store.specs.declared.entry.Entry.{Entry}
 use Rattle.lethe_store.specs.declared.entry.Mark.{Mark}
 use Rattle.lethe_store.specs.declared.entry.Mark.TheVariants.{Made}
 use Rattle.lethe_store.specs.StoreViews.{StoreView}
-use Rattle.lethe_store.specs.Diary.{made_in}
+use Rattle.lethe_store.specs.Diary.{made_in, spent_by}
 use Rattle.lethe_store.specs.Entries.{changes_of, clock_along}
 
--- what a pin notes: that it was made, unless it was refused
+-- what a pin notes: that it was made, or that numbers are used up
 abbrev pub pinned_by : {D Page Port : Type 0} {kind : Ghosts D Page Port} → Result (Snapshot D Page Port kind) Refused → List Mark
 pinned_by (Ok snapshot) = Made snapshot.pin.number snapshot.pin.limit ∷ []
-pinned_by (Err why) = []
+pinned_by (Err why) = spent_by (Some why)
 
 module _ {V : Type 0} where
   -- by what it has noted so many pins were made, those included that the opened store had made

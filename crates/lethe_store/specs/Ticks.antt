@@ -13,14 +13,15 @@ use Rattle.lethe_engine.specs.Certificates.{IsTrueCertificate}
 use Rattle.lethe_engine.specs.StandsFor.{Opened, StandsSince}
 use Rattle.lethe_engine.specs.Ticks.{IsCertificateAt}
 use Rattle.lethe_engine.specs.declared.ticking.Ticked.{Ticked}
+use Rattle.lethe_state.specs.Clock.{clock_of}
 use Rattle.lethe_turn.specs.Seats.{count_of}
 use Rattle.lethe_turn.specs.declared.view.View.{View}
 use Rattle.lethe_store.specs.declared.entry.Entry.{Entry}
 use Rattle.lethe_store.specs.declared.entry.Mark.{Mark}
 use Rattle.lethe_store.specs.declared.entry.Mark.TheVariants.{Round, Certified}
 use Rattle.lethe_store.specs.StoreViews.{StoreView}
-use Rattle.lethe_store.specs.Diary.{IsHeldBehind, limited}
-use Rattle.lethe_store.specs.Entries.{changes_of}
+use Rattle.lethe_store.specs.Diary.{IsHeldBehind, limited, spent_by}
+use Rattle.lethe_store.specs.Entries.{changes_of, clock_along}
 use Rattle.lethe_store.specs.Reads.{IsClockSeen}
 use Rattle.lethe_store.specs.Reasons.{HasReasonOfRead, IsStoppedAt, PortCounts}
 
@@ -29,15 +30,15 @@ abbrev pub certified_at : ℕ → Option Certificate → List Mark
 certified_at place None = []
 certified_at place (Some certificate) = Certified place certificate ∷ []
 
--- what a tick answered, if it was done
+-- what a tick notes of its answer: a certificate, or that numbers are used up
 abbrev pub answered_at : Result Ticked Refused → List Mark
 answered_at (Ok told) = certified_at told.place told.certificate
-answered_at (Err why) = []
+answered_at (Err why) = spent_by (Some why)
 
--- what a tick notes, by whether it was begun: a round has ended, and maybe a certificate was answered
+-- what a tick notes, by whether it was begun: then a round has ended
 abbrev pub ticked_by : Bool → Result Ticked Refused → List Mark
 ticked_by true result = Round ∷ answered_at result
-ticked_by false result = []
+ticked_by false result = answered_at result
 
 -- It was begun where its tests passed: where it was done, and where it failed on its way, but not where it was refused before any work. Numbers may run out before it and on its way.
 abbrev pub IsBegunBy : Bool → Result Ticked Refused → Type 0

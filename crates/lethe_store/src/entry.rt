@@ -30,4 +30,6 @@ pub enum Mark {
     Released {
         number: u64,
     },
+    /// A call was refused because numbers are used up.
+    Spent,
 }

@@ -10,7 +10,7 @@ ghost use Rattle.lethe_store.specs.declared.entry.Mark.TheVariants.{Released};
 use crate::changes::Changes;
 use crate::session::Session;
 use crate::store::Store;
-use crate::telling::{told_made, told_released};
+use crate::telling::{told_made, told_refusal, told_released};
 use lethe_base::Refused;
 use lethe_core::Snapshot;
 use lethe_disk::Disk;
@@ -48,7 +48,8 @@ impl<D: Disk> Store<D, Changes> {
                 Ok(snapshot)
             }
             Err(why) => {
-                self.put_back(session, held);
+                let noted = told_refusal(&why);
+                self.note(session, held, &noted);
                 Err(why)
             }
         }

@@ -1,10 +1,11 @@
 //! What is told of each call, in values that have no bytes.
-ghost use Rattle.std.specs.Prelude.{◌≡◌, ℕ, [], ◌∷◌, length};
+ghost use Rattle.std.specs.Prelude.{◌≡◌, ℕ, [], ◌∷◌, length, Some};
 ghost use Rattle.std.specs.Result.{result_err};
 ghost use Rattle.lethe_base.specs.declared.call.Call as calls;
 ghost use Rattle.lethe_base.specs.declared.call.Call.TheVariants.{Tick};
 ghost use Rattle.lethe_core.specs.Asked.{Makes};
 ghost use Rattle.lethe_engine.specs.ChangeRows.{call_of};
+ghost use Rattle.lethe_store.specs.Diary.{spent_by};
 ghost use Rattle.lethe_store.specs.Entries.{did_by, entries_of, failed_by};
 ghost use Rattle.lethe_store.specs.Ticks.{ticked_by};
 ghost use Rattle.lethe_store.specs.declared.entry.Mark.TheVariants.{Made, Released};
@@ -55,6 +56,34 @@ pub(crate) fn told_made(number: u64, limit: u64) -> Told<Mark>
     ensures { result.items ≡ Made number limit ∷ [] }
 {
     named_made::<Brand>(number, limit)
+}
+
+fn named_refusal<N: Names<Mark>>(why: &Refused) -> Told<Mark>
+    requires { N.named ≡ spent_by (Some why.now) }
+    ensures { result.items ≡ spent_by (Some why.now) }
+{
+    Told::list::<N>()
+}
+
+/// That numbers are used up, where a call is refused for that.
+pub(crate) fn told_refusal(why: &Refused) -> Told<Mark>
+    ensures { result.items ≡ spent_by (Some why.now) }
+{
+    named_refusal::<Brand>(why)
+}
+
+fn named_answer<N: Names<Mark>>(answer: &Result<u64, Refused>) -> Told<Mark>
+    requires { N.named ≡ spent_by (result_err answer.now) }
+    ensures { result.items ≡ spent_by (result_err answer.now) }
+{
+    Told::list::<N>()
+}
+
+/// The marks of a change that was answered so.
+pub(crate) fn told_answer(answer: &Result<u64, Refused>) -> Told<Mark>
+    ensures { result.items ≡ spent_by (result_err answer.now) }
+{
+    named_answer::<Brand>(answer)
 }
 
 fn named_released<N: Names<Mark>>(number: u64) -> Told<Mark>

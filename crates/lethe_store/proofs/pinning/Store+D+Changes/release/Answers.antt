@@ -1,9 +1,9 @@
-use Rattle.std.proofs.Common.{◌≡◌, [], ◌∷◌, sym, ap, ◌∙◌, subst}
+use Rattle.std.proofs.Common.{◌≡◌, [], ◌∷◌, None, refl, sym, ap, ◌∙◌, subst}
 use Rattle.lethe_store.specs.declared.entry.Mark.TheVariants as mark
 use Rattle.lethe_store.specs.Since.{Since, all_counted}
 use Rattle.lethe_store.specs.Sessions.{HasDone, IsLedTo}
 use Rattle.lethe_store.specs.StoreViews.{store_view}
-use Rattle.lethe_turn.specs.Seats.{passed_noting}
+use Rattle.lethe_turn.specs.Seats.{count_of, passed_noting}
 use Rattle.lethe_store.proofs.Pinned.{leads_noting, noted_released}
 use Rattle.lethe_store.proofs.Seats.{noted_ready, noted_so}
 use Rattle.lethe_store.proofs.pinning.Store+D+Changes.release.Goals as goal
@@ -16,7 +16,7 @@ note-requires-clause-since g c κs within =
     let number = c.args.snapshot.pin.number in
     let said : c.told_released-noted.result.items ≡ mark.Released number ∷ [] = c.told_released-noted.ensures ∙ ap (λ n. mark.Released n ∷ []) c.number.ensures in
     subst (λ m. IsLedTo (λ o. store_view o.engine) (Since g.D.Disk.tells g.D.Disk.ports_fail) (passed_noting c.told_released-noted.result.items m.0) new) (sym c.learn-at.ensures.same)
-    (leads_noting g.D.Disk.tells g.D.Disk.ports_fail (λ o. store_view o.engine) w old new _ c.told_released-noted.result.items (mark.Released number ∷ []) c.take-held.ensures.since c.release.ensures.answers said
+    (leads_noting g.D.Disk.tells g.D.Disk.ports_fail (λ o. store_view o.engine) w old new None _ c.told_released-noted.result.items (mark.Released number ∷ []) refl c.take-held.ensures.since c.release.ensures.answers said
     (noted_released g.D.Disk.tells old new number c.release.ensures.answers.face_is (ap (λ e. e.certificates.items) c.release.ensures.same)))
 
 pub returns-clause-ready : goal.returns-clause-ready

@@ -1,4 +1,4 @@
-use Rattle.std.proofs.Common.{◌≡◌, ◌∙◌, length, not, refl, sym, ap, subst}
+use Rattle.std.proofs.Common.{◌≡◌, ◌<◌, ◌∙◌, [], ◌∷◌, length, not, refl, sym, ap, subst}
 use Rattle.std.specs.Prelude.{IfErr, ◌==◌}
 use Rattle.std.specs.Result.{result_err}
 use Rattle.lethe_base.specs.declared.call.Call.TheVariants.{Tick}
@@ -38,7 +38,7 @@ give-requires-clause-room g c κs within =
     (result_err c.tick-answer.result) (ticked_face (view_of old.core) c.args.to) (ticked_by passed c.tick-answer.result) c.take-held.ensures.more c.take-held.ensures.since
     c.told_entries-said.result.items c.told_tick-call.result.items c.did_of-did.result c.told_ticked-noted.result.items told c.told_tick-call.ensures (c.did_of-did.ensures (Tick c.args.to)) marks
     is.answers (first_failure_of_tick g.D.Disk.tells g.D.Disk.ports_fail c.args.to (view_of old.core) (view_of new.core) (g.D.Disk.port_faults c.take-held.new.session.port) (g.D.Disk.port_faults c.tick-answer.new.port) c.tick-answer.result why)
-    (noted_tick g.D.Disk.tells c.args.session.now.caller c.args.to (store_view old) (store_view new) (g.D.Disk.seen new.core.disk).directory c.tick-answer.result begun is.answers is.place is.due is.kept is.is_true is.certified) c.requires.ready.1
+    (noted_tick g.D.Disk.tells g.D.Disk.ports_fail (g.D.Disk.port_faults c.take-held.new.session.port) (g.D.Disk.port_faults c.tick-answer.new.port) c.args.session.now.caller c.args.to (store_view old) (store_view new) (g.D.Disk.seen new.core.disk).directory c.tick-answer.result c.take-held.ensures.sound why begun is.answers is.place is.due is.kept is.is_true is.certified) c.requires.ready.1
 
 pub give-requires-clause-since : goal.give-requires-clause-since
 give-requires-clause-since g c κs within =
@@ -56,7 +56,7 @@ give-requires-clause-since g c κs within =
     (result_err c.tick-answer.result) (ticked_face (view_of old.core) c.args.to) (ticked_by passed c.tick-answer.result) c.take-held.ensures.more c.take-held.ensures.since
     c.told_entries-said.result.items c.told_tick-call.result.items c.did_of-did.result c.told_ticked-noted.result.items told c.told_tick-call.ensures (c.did_of-did.ensures (Tick c.args.to)) marks
     is.answers (first_failure_of_tick g.D.Disk.tells g.D.Disk.ports_fail c.args.to (view_of old.core) (view_of new.core) (g.D.Disk.port_faults c.take-held.new.session.port) (g.D.Disk.port_faults c.tick-answer.new.port) c.tick-answer.result why)
-    (noted_tick g.D.Disk.tells c.args.session.now.caller c.args.to (store_view old) (store_view new) (g.D.Disk.seen new.core.disk).directory c.tick-answer.result begun is.answers is.place is.due is.kept is.is_true is.certified)
+    (noted_tick g.D.Disk.tells g.D.Disk.ports_fail (g.D.Disk.port_faults c.take-held.new.session.port) (g.D.Disk.port_faults c.tick-answer.new.port) c.args.session.now.caller c.args.to (store_view old) (store_view new) (g.D.Disk.seen new.core.disk).directory c.tick-answer.result c.take-held.ensures.sound why begun is.answers is.place is.due is.kept is.is_true is.certified)
 
 pub returns-clause-ready : goal.returns-clause-ready
 returns-clause-ready g c =
@@ -142,7 +142,7 @@ returns-clause-due g c =
     (result_err c.tick-answer.result) (ticked_face (view_of old.core) c.args.to) (ticked_by passed c.tick-answer.result) c.take-held.ensures.more c.take-held.ensures.since
     c.told_entries-said.result.items c.told_tick-call.result.items c.did_of-did.result c.told_ticked-noted.result.items told c.told_tick-call.ensures (c.did_of-did.ensures (Tick c.args.to)) marks
     is.answers (first_failure_of_tick g.D.Disk.tells g.D.Disk.ports_fail c.args.to (view_of old.core) (view_of new.core) (g.D.Disk.port_faults c.take-held.new.session.port) (g.D.Disk.port_faults c.tick-answer.new.port) c.tick-answer.result why)
-    (noted_tick g.D.Disk.tells c.args.session.now.caller c.args.to (store_view old) (store_view new) (g.D.Disk.seen new.core.disk).directory c.tick-answer.result begun is.answers is.place is.due is.kept is.is_true is.certified)) in
+    (noted_tick g.D.Disk.tells g.D.Disk.ports_fail (g.D.Disk.port_faults c.take-held.new.session.port) (g.D.Disk.port_faults c.tick-answer.new.port) c.args.session.now.caller c.args.to (store_view old) (store_view new) (g.D.Disk.seen new.core.disk).directory c.tick-answer.result c.take-held.ensures.sound why begun is.answers is.place is.due is.kept is.is_true is.certified)) in
     tick_due g.D.Disk.tells g.D.Disk.ports_fail (λ o. store_view o.engine) c.give.new.session.seat.me.0 (store_view new) c.args.to c.tick-answer.result leads is.due
 
 pub returns-clause-why : goal.returns-clause-why
@@ -162,7 +162,7 @@ returns-clause-why g c =
     (result_err c.tick-answer.result) (ticked_face (view_of old.core) c.args.to) (ticked_by passed c.tick-answer.result) c.take-held.ensures.more c.take-held.ensures.since
     c.told_entries-said.result.items c.told_tick-call.result.items c.did_of-did.result c.told_ticked-noted.result.items told c.told_tick-call.ensures (c.did_of-did.ensures (Tick c.args.to)) marks
     is.answers (first_failure_of_tick g.D.Disk.tells g.D.Disk.ports_fail c.args.to (view_of old.core) (view_of new.core) (g.D.Disk.port_faults c.take-held.new.session.port) (g.D.Disk.port_faults c.tick-answer.new.port) c.tick-answer.result why)
-    (noted_tick g.D.Disk.tells c.args.session.now.caller c.args.to (store_view old) (store_view new) (g.D.Disk.seen new.core.disk).directory c.tick-answer.result begun is.answers is.place is.due is.kept is.is_true is.certified)) in
+    (noted_tick g.D.Disk.tells g.D.Disk.ports_fail (g.D.Disk.port_faults c.take-held.new.session.port) (g.D.Disk.port_faults c.tick-answer.new.port) c.args.session.now.caller c.args.to (store_view old) (store_view new) (g.D.Disk.seen new.core.disk).directory c.tick-answer.result c.take-held.ensures.sound why begun is.answers is.place is.due is.kept is.is_true is.certified)) in
     let result = c.tick-answer.result in
     let x = c.give.new.session.seat.me.0 in
     let first = c.take-held.new.session.port in
