@@ -1,11 +1,10 @@
 -- Whether a tick was begun, by what it answered.
 use Rattle.std.proofs.Common.{◌≡◌, ◌≤◌, ◌<◌, inl, inr, ℕ, ◌+◌, Bool, true, false, not, if◌then◌else◌, List, [], ◌∷◌, Option, Some, None, Result, Ok, Err, refl, sym, ap, ◌∙◌, subst, arith}
-use Rattle.std.specs.Prelude.{◌⊎◌, ◌==◌, ◌&&◌, IfErr, IsErrOf, is_none, nat_le, nat_lt, unwrap_or}
+use Rattle.std.specs.Prelude.{◌⊎◌, ◌==◌, ◌&&◌, IfErr, IsErrOf, is_none}
 use Rattle.std.proofs.lemmas.Bool.{cases_Bool, cases_lt, eq-eqb, le-leb, lt-ltb, ltb-false, ne_eqb}
 use Rattle.lethe_base.specs.Limits.{max_place}
 use Rattle.lethe_base.specs.declared.refused.Refused.{Refused}
 use Rattle.lethe_base.specs.declared.refused.Refused.TheVariants.{Fault, Stopped, Backwards, Pinned, NothingDue, Cancelled, Exhausted, ReadFault, NoMemory, Damaged}
-use Rattle.lethe_core.specs.Reasons.{HasReason}
 use Rattle.lethe_core.specs.View.{View, face_of}
 use Rattle.lethe_pins.specs.Held.{first_limit_of}
 use Rattle.lethe_pins.specs.declared.pin.Pin.{Pin}

@@ -1,5 +1,5 @@
 -- What a session knows after its pins.
-use Rattle.std.proofs.Common.{◌≡◌, ◌≤◌, ◌<◌, inl, inr, ℕ, ◌+◌, List, [], ◌∷◌, ◌++◌, length, Option, Some, None, refl, sym, ap, ◌∙◌, subst, append-nil}
+use Rattle.std.proofs.Common.{◌≡◌, ◌≤◌, ◌<◌, inl, inr, ℕ, ◌+◌, List, [], ◌∷◌, ◌++◌, Option, Some, None, refl, sym, ap, ◌∙◌, subst, append-nil}
 use Rattle.std.specs.Prelude.{◌⊎◌}
 use Rattle.std.proofs.lemmas.List.Elements.{All-nil}
 use Rattle.lethe_base.specs.History.{History}
@@ -19,10 +19,10 @@ use Rattle.lethe_engine.specs.StandsFor.{Opened, StandsSince}
 use Rattle.lethe_pins.specs.Held.{placed_by}
 use Rattle.lethe_state.specs.Clock.{Clock}
 use Rattle.lethe_stored.specs.Left.{without_failed}
-use Rattle.lethe_turn.specs.Seats.{count_of, passed_noting}
+use Rattle.lethe_turn.specs.Seats.{passed_noting}
 use Rattle.lethe_store.specs.declared.entry.Mark.{Mark}
 use Rattle.lethe_store.specs.declared.entry.Mark.TheVariants.{Made, Released}
-use Rattle.lethe_store.specs.Diary.{IsCertifiedAt, IsSpent, limited, made_in, spent_by}
+use Rattle.lethe_store.specs.Diary.{IsCertifiedAt, IsSpent, limited, spent_by}
 use Rattle.lethe_store.specs.DiaryLaws.{made_along}
 use Rattle.lethe_store.specs.Entries.{changes_of}
 use Rattle.lethe_store.specs.Laws.{IsNoted, none_spent, noted_spent, nothing_said, since_call, stands_along}

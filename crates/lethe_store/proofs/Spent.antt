@@ -1,9 +1,8 @@
 -- Where a call is refused because numbers are used up they are, and stay so.
-use Rattle.std.proofs.Common.{◌≡◌, ◌≤◌, inl, inr, ℕ, ◌+◌, List, Option, Some, None, Result, Ok, Err, refl, sym, ap, ◌∙◌, subst, arith}
-use Rattle.std.specs.Prelude.{◌⊎◌, IfErr, unwrap_or}
+use Rattle.std.proofs.Common.{◌≡◌, ◌≤◌, inl, inr, ℕ, Option, Some, None, Result, Ok, Err, refl, ap, ◌∙◌, subst, arith}
+use Rattle.std.specs.Prelude.{IfErr, unwrap_or}
 use Rattle.std.specs.Result.{result_err}
 use Rattle.lethe_base.specs.History.{History}
-use Rattle.lethe_base.specs.Limits.{max_place}
 use Rattle.lethe_base.specs.declared.call.Call.{Call}
 use Rattle.lethe_base.specs.declared.call.Call.TheVariants.{Tick}
 use Rattle.lethe_base.specs.declared.config.Fields.{Fields}

@@ -1,12 +1,11 @@
 -- What a session knows after its ticks.
-use Rattle.std.proofs.Common.{◌≡◌, ◌≢◌, ◌≤◌, ◌<◌, inl, inr, ℕ, ◌+◌, Bool, true, false, if◌then◌else◌, List, [], ◌∷◌, ◌++◌, length, map, Option, Some, None, Result, Ok, Err, refl, sym, ap, ◌∙◌, subst, arith, append-nil, append_assoc}
-use Rattle.std.specs.Prelude.{◌⊎◌, All, Contains, IfErr, IfOk, IfSome, IsErrOf, MatchResult, option_to_list, unwrap_or}
+use Rattle.std.proofs.Common.{◌≡◌, ◌≤◌, ◌<◌, inl, inr, ℕ, ◌+◌, Bool, true, false, if◌then◌else◌, List, [], ◌∷◌, ◌++◌, length, map, Option, Some, None, Result, Ok, Err, refl, sym, ap, ◌∙◌, subst, arith, append-nil, append_assoc}
+use Rattle.std.specs.Prelude.{All, Contains, IfErr, IfOk, IfSome, IsErrOf, MatchResult, option_to_list, unwrap_or}
 use Rattle.std.specs.Result.{result_err}
 use Rattle.std.proofs.lemmas.List.{length-append, map-append}
 use Rattle.std.proofs.lemmas.List.Elements.{All-head, All-nil, All-cons, Contains-append_cases}
 use Rattle.lethe_base.specs.Counts.{Rose}
 use Rattle.lethe_base.specs.History.{History}
-use Rattle.lethe_base.specs.Limits.{max_place}
 use Rattle.lethe_base.specs.declared.call.Call.{Call}
 use Rattle.lethe_base.specs.declared.call.Call.TheVariants.{Put, Delete, Erase, Tick, Work}
 use Rattle.lethe_base.specs.declared.call.Did.{Did}
@@ -37,12 +36,11 @@ use Rattle.lethe_store.specs.declared.entry.Mark.{Mark}
 use Rattle.lethe_store.specs.declared.entry.Mark.TheVariants.{Round, Certified, Spent}
 use Rattle.lethe_store.specs.Diary.{AreNumbered, IsCertifiedAt, IsHeldBehind, IsSpent, answered_in, certified_in, face_along, limited, made_in, spent_by}
 use Rattle.lethe_store.specs.DiaryLaws.{held_along, rounds_rise, spent_either}
-use Rattle.lethe_store.specs.Entries.{change_of, changes_of, clock_along, clock_by, entries_by, stopped_behind}
+use Rattle.lethe_store.specs.Entries.{change_of, changes_of, clock_along, clock_by, entries_by}
 use Rattle.lethe_store.specs.Laws.{IsFirstFailure, IsNoted, none_spent, nothing_noted, stands_along}
-use Rattle.lethe_store.specs.Reads.{IsClockSeen}
-use Rattle.lethe_store.specs.Reasons.{IsStoppedAt, PortCounts}
+use Rattle.lethe_store.specs.Reasons.{PortCounts}
 use Rattle.lethe_store.specs.Sessions.{KnowsOpened}
-use Rattle.lethe_store.specs.Since.{Since, all_counted}
+use Rattle.lethe_store.specs.Since.{all_counted}
 use Rattle.lethe_store.specs.StoreViews.{StoreView}
 use Rattle.lethe_store.specs.Ticks.{HasReasonOfTick, HoldsPin, IsBegunBy, IsCertifiedFrom, IsTrueOf, answered_at, certified_at, ticked_by}
 use Rattle.lethe_store.proofs.Behind.{Knows, Leads, counts_seen}

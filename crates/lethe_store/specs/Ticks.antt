@@ -13,7 +13,6 @@ use Rattle.lethe_engine.specs.Certificates.{IsTrueCertificate}
 use Rattle.lethe_engine.specs.StandsFor.{Opened, StandsSince}
 use Rattle.lethe_engine.specs.Ticks.{IsCertificateAt}
 use Rattle.lethe_engine.specs.declared.ticking.Ticked.{Ticked}
-use Rattle.lethe_state.specs.Clock.{clock_of}
 use Rattle.lethe_turn.specs.Seats.{count_of}
 use Rattle.lethe_turn.specs.declared.view.View.{View}
 use Rattle.lethe_store.specs.declared.entry.Entry.{Entry}
@@ -21,7 +20,7 @@ use Rattle.lethe_store.specs.declared.entry.Mark.{Mark}
 use Rattle.lethe_store.specs.declared.entry.Mark.TheVariants.{Round, Certified}
 use Rattle.lethe_store.specs.StoreViews.{StoreView}
 use Rattle.lethe_store.specs.Diary.{IsHeldBehind, limited, spent_by}
-use Rattle.lethe_store.specs.Entries.{changes_of, clock_along}
+use Rattle.lethe_store.specs.Entries.{changes_of}
 use Rattle.lethe_store.specs.Reads.{IsClockSeen}
 use Rattle.lethe_store.specs.Reasons.{HasReasonOfRead, IsStoppedAt, PortCounts}
 

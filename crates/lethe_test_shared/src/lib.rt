@@ -10,6 +10,8 @@ mod faults;
 mod fifty;
 mod many;
 #[cfg(test)]
+mod pins;
+#[cfg(test)]
 mod rows;
 #[cfg(test)]
 mod scans;

@@ -1,4 +1,4 @@
-use Rattle.std.proofs.Common.{◌≡◌, ◌+◌, [], ◌∷◌, Some, None, Err, refl, sym, ap, ◌∙◌, subst}
+use Rattle.std.proofs.Common.{◌≡◌, [], ◌∷◌, Some, None, Err, refl, sym, ap, ◌∙◌, subst}
 use Rattle.lethe_base.specs.Limits.{max_place}
 use Rattle.lethe_store.specs.declared.entry.Mark.TheVariants as mark
 use Rattle.lethe_store.specs.Diary.{spent_by}

@@ -3,7 +3,7 @@ use Rattle.lethe_store.specs.declared.entry.Mark.TheVariants as mark
 use Rattle.lethe_store.specs.Since.{Since, all_counted}
 use Rattle.lethe_store.specs.Sessions.{HasDone, IsLedTo}
 use Rattle.lethe_store.specs.StoreViews.{store_view}
-use Rattle.lethe_turn.specs.Seats.{count_of, passed_noting}
+use Rattle.lethe_turn.specs.Seats.{passed_noting}
 use Rattle.lethe_store.proofs.Pinned.{leads_noting, noted_released}
 use Rattle.lethe_store.proofs.Seats.{noted_ready, noted_so}
 use Rattle.lethe_store.proofs.pinning.Store+D+Changes.release.Goals as goal
