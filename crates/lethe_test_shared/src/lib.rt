@@ -10,8 +10,6 @@ mod faults;
 mod fifty;
 mod many;
 #[cfg(test)]
-mod pins;
-#[cfg(test)]
 mod rows;
 #[cfg(test)]
 mod scans;
