@@ -30,7 +30,7 @@ use Rattle.lethe_store.specs.Reasons.{HasReasonOfChange, HasReasonOfRead, IsStop
 use Rattle.lethe_store.specs.Sessions.{IsLedTo, KnowsOpened}
 use Rattle.lethe_store.specs.Since.{Since, all_counted}
 use Rattle.lethe_store.proofs.Seats.{knows_after}
-use Rattle.lethe_store.specs.Laws.{IsFirstFailure, since_call, stands_along, stays_stopped}
+use Rattle.lethe_store.specs.Laws.{IsFirstFailure, IsNoted, since_call, stands_along, stays_stopped}
 
 -- a change in which the disk failed is the first one, and has the next place
 pub first_failure : (Tells PortsFail : Type 0) (old new : core.View) (before now : ℕ) (result : Result ℕ Refused) → IfErr result (engine.HasReasonOfChange Tells PortsFail old new before now)
@@ -86,7 +86,7 @@ module _ {V : Type 0} (Tells PortsFail : Type 0) (see : V → StoreView) where
 
   -- Behind a change: v is what the session knew before it, w in its turn, and x behind it
 
-  module _ (v w : Knows V) (old new : StoreView) (caller : ℕ) (call : Call) (why : Option Refused) (more : HasSeenMore v w) (leads : Leads w old) where
+  module _ (v w : Knows V) (old new : StoreView) (caller : ℕ) (call : Call) (why : Option Refused) (face : core.Face) (marked : List Mark) (more : HasSeenMore v w) (leads : Leads w old) where
     abbrev made : List Entry
     made = entries_by caller (Makes call) why
 
@@ -95,34 +95,34 @@ module _ {V : Type 0} (Tells PortsFail : Type 0) (see : V → StoreView) where
     told_is said calls did is called went = is ∙ (λ i. entries_of caller (called i) (went i))
 
     -- the store behind it is the one to which its entry leads
-    pub leads_behind : (said : List Entry) (calls : List Call) (did : Option Did) (noted : List Mark) → said ≡ entries_of caller calls did → calls ≡ call ∷ [] → did ≡ did_by (Makes call) why → noted ≡ []
-        → Answers Tells (Makes call) why (core.face_of old.view) old.view new.view → IsFirstFailure old.view.state.stopped old.view.state.count why → new.certificates ≡ old.certificates
+    pub leads_behind : (said : List Entry) (calls : List Call) (did : Option Did) (noted : List Mark) → said ≡ entries_of caller calls did → calls ≡ call ∷ [] → did ≡ did_by (Makes call) why → noted ≡ marked
+        → Answers Tells (Makes call) why face old.view new.view → IsFirstFailure old.view.state.stopped old.view.state.count why → IsNoted Tells caller (Makes call) why marked old new
         → Leads (passed_noting noted (entered said w)) new
-    leads_behind said calls did noted is called went none answers first same =
+    leads_behind said calls did noted is called went marks answers first noted_is =
         λ o op. subst (λ l. Since Tells PortsFail (see o) (w.seen ++ l) (w.noted ++ noted) new) (sym (told_is said calls did is called went))
-        (subst (λ l. Since Tells PortsFail (see o) (w.seen ++ made) l new) (sym (ap (λ l. w.noted ++ l) none ∙ append-nil w.noted))
-        (since_call Tells PortsFail (see o) old w.seen w.noted (leads o op) new caller (Makes call) why answers first same))
+        (subst (λ l. Since Tells PortsFail (see o) (w.seen ++ made) (w.noted ++ l) new) (sym marks)
+        (since_call Tells PortsFail (see o) old w.seen w.noted (leads o op) new caller (Makes call) why face answers first marked noted_is))
 
     -- and there is room for it
-    pub room_behind : (said : List Entry) (calls : List Call) (did : Option Did) (noted : List Mark) → said ≡ entries_of caller calls did → calls ≡ call ∷ [] → did ≡ did_by (Makes call) why → noted ≡ []
-        → Answers Tells (Makes call) why (core.face_of old.view) old.view new.view → IsFirstFailure old.view.state.stopped old.view.state.count why → new.certificates ≡ old.certificates
+    pub room_behind : (said : List Entry) (calls : List Call) (did : Option Did) (noted : List Mark) → said ≡ entries_of caller calls did → calls ≡ call ∷ [] → did ≡ did_by (Makes call) why → noted ≡ marked
+        → Answers Tells (Makes call) why face old.view new.view → IsFirstFailure old.view.state.stopped old.view.state.count why → IsNoted Tells caller (Makes call) why marked old new
         → KnowsOpened all_counted see v → count_of w + length said < 2 ^ 62
-    room_behind said calls did noted is called went none answers first same knows =
-        has_room w said noted new (knows_after all_counted see v w knows more.opened more.start) (leads_behind said calls did noted is called went none answers first same)
+    room_behind said calls did noted is called went marks answers first noted_is knows =
+        has_room w said noted new (knows_after all_counted see v w knows more.opened more.start) (leads_behind said calls did noted is called went marks answers first noted_is)
 
     -- and this is what it knows then
-    pub knows_made : (x : Knows V) (said : List Entry) (calls : List Call) (did : Option Did) (noted : List Mark) → said ≡ entries_of caller calls did → calls ≡ call ∷ [] → did ≡ did_by (Makes call) why → noted ≡ []
-        → x ≡ passed_noting noted (entered said w) → x ≡ passed_noting [] (entered made w)
-    knows_made x said calls did noted is called went none given = given ∙ (λ i. passed_noting (none i) (entered (told_is said calls did is called went i) w))
+    pub knows_made : (x : Knows V) (said : List Entry) (calls : List Call) (did : Option Did) (noted : List Mark) → said ≡ entries_of caller calls did → calls ≡ call ∷ [] → did ≡ did_by (Makes call) why → noted ≡ marked
+        → x ≡ passed_noting noted (entered said w) → x ≡ passed_noting marked (entered made w)
+    knows_made x said calls did noted is called went marks given = given ∙ (λ i. passed_noting (marks i) (entered (told_is said calls did is called went i) w))
 
   -- the place that it answered is how many changes it has then seen
-  pub placed_at : (v w x : Knows V) (old : StoreView) (caller : ℕ) (call : Call) (result : Result ℕ Refused) → KnowsOpened all_counted see v → HasSeenMore v w → Leads w old
-      → IfOk result (λ place. place ≡ old.view.state.count + 1) → x ≡ passed_noting [] (entered (entries_by caller (Makes call) (result_err result)) w) → IfOk result (λ place. place ≡ count_of x)
-  placed_at v w x old caller call (Ok place) knows more leads told is =
+  pub placed_at : (v w x : Knows V) (old : StoreView) (caller : ℕ) (call : Call) (result : Result ℕ Refused) (marked : List Mark) → KnowsOpened all_counted see v → HasSeenMore v w → Leads w old
+      → IfOk result (λ place. place ≡ old.view.state.count + 1) → x ≡ passed_noting marked (entered (entries_by caller (Makes call) (result_err result)) w) → IfOk result (λ place. place ≡ count_of x)
+  placed_at v w x old caller call (Ok place) marked knows more leads told is =
       let n = counts_seen w old (knows_after all_counted see v w knows more.opened more.start) leads in
       let l : length x.seen ≡ length w.seen + 1 = ap (λ u. length u.seen) is ∙ length-append w.seen (entries_by caller (Makes call) None) in
       let s : x.start ≡ w.start = ap (λ u. u.start) is in let t : place ≡ old.view.state.count + 1 = told in let e : place ≡ count_of x = omega arith in e
-  placed_at v w x old caller call (Err why) knows more leads told is = tt
+  placed_at v w x old caller call (Err why) marked knows more leads told is = tt
 
   -- where a change that it had seen failed, it is refused for that
   pub stopped_before : (v w : Knows V) (old : StoreView) (at : ℕ) → KnowsOpened all_counted see v → HasSeenMore v w → Leads w old → IsStoppedAt see v at → old.view.state.stopped ≡ Some at
@@ -131,9 +131,9 @@ module _ {V : Type 0} (Tells PortsFail : Type 0) (see : V → StoreView) where
       ∙ ap (stopped_behind (see o).view.state.stopped (see o).view.state.count) (sym more.seen.1)
       ∙ stays_stopped (see o).view.state.stopped (see o).view.state.count at v.seen more.seen.0 (stopped o is)
 
-  module _ (v w x : Knows V) (old new : StoreView) (caller : ℕ) (call : Call) (knows : KnowsOpened all_counted see v) (more : HasSeenMore v w) (leads : Leads w old) (before now : PortCounts) where
+  module _ (v w x : Knows V) (old new : StoreView) (caller : ℕ) (call : Call) (marked : List Mark) (knows : KnowsOpened all_counted see v) (more : HasSeenMore v w) (leads : Leads w old) (before now : PortCounts) where
     reason : (why : Refused) → engine.HasReasonOfChange Tells PortsFail old.view new.view before.faults now.faults why → ((name : Name) → why ≡ Damaged name → before.fetches < now.fetches)
-        → x ≡ passed_noting [] (entered (entries_by caller (Makes call) (Some why)) w) → HasReasonOfChange Tells PortsFail see x before now why
+        → x ≡ passed_noting marked (entered (entries_by caller (Makes call) (Some why)) w) → HasReasonOfChange Tells PortsFail see x before now why
     reason (Fault place told_before told_now) (inl is) fetched given =
         let n = counts_seen w old (knows_after all_counted see v w knows more.opened more.start) leads in
         let l : length x.seen ≡ length w.seen + 1 = ap (λ u. length u.seen) given ∙ length-append w.seen (entries_by caller (Makes call) (Some (Fault place told_before told_now))) in
@@ -163,7 +163,7 @@ module _ {V : Type 0} (Tells PortsFail : Type 0) (see : V → StoreView) where
 
     -- why it was refused, if it was
     pub reason_behind : (result : Result ℕ Refused) → IfErr result (engine.HasReasonOfChange Tells PortsFail old.view new.view before.faults now.faults)
-        → ((name : Name) → IsErrOf result (Damaged name) → before.fetches < now.fetches) → x ≡ passed_noting [] (entered (entries_by caller (Makes call) (result_err result)) w)
+        → ((name : Name) → IsErrOf result (Damaged name) → before.fetches < now.fetches) → x ≡ passed_noting marked (entered (entries_by caller (Makes call) (result_err result)) w)
         → IfErr result (HasReasonOfChange Tells PortsFail see x before now)
     reason_behind (Ok place) is fetched given = tt
     reason_behind (Err why) is fetched given = reason why is (λ name same. fetched name (ap Err same)) given

@@ -1,3 +1,8 @@
 pub mod Seats
 pub mod Behind
+pub mod Pinned
+pub mod Begun
+pub mod Placed
+pub mod Spent
+pub mod Ticked
 pub mod Crossing

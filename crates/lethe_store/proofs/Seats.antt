@@ -31,6 +31,18 @@ module _ {E M V : Type 0} where
     start = ap (λ u. u.start) is ∙ more.start;
   }
 
+  -- a turn was taken, and passed on with these marks alone
+  pub noted_so : (v w x : View V E M) (noted : List M) → HasSeenMore v w → x ≡ passed_noting noted w → HasDone [] noted v x
+  noted_so v w x noted more is = record {
+    seen = (w.seen, more.seen, ap (λ u. u.seen) is ∙ sym (append-nil w.seen));
+    noted_is = (w.noted, more.noted, ap (λ u. u.noted) is);
+    mine = ap (λ u. u.mine) is ∙ more.mine ∙ sym (append-nil v.mine);
+    marks = ap (λ u. u.marks) is ∙ ap (λ l. l ++ noted) more.marks;
+    parts = ap (λ u. u.parts) is ∙ more.parts;
+    opened = ap (λ u. u.opened) is ∙ more.opened;
+    start = ap (λ u. u.start) is ∙ more.start;
+  }
+
   -- the same as what was seen more
   pub more_passed : (v w x : View V E M) → HasSeenMore v w → x ≡ passed w → HasSeenMore v x
   more_passed v w x more is = record {
@@ -50,6 +62,12 @@ module _ {E M V : Type 0} where
   pub ready_after : (start : ℕ → ℕ) (see : V → StoreView) (m : Seated E M V) (w : View V E M) (n : Seated E M V) (said : List E) (noted : List M) → IsReady start see m → HasSeenMore m.0 w
       → n ≡ (passed_noting noted (entered said w), []) → IsReady start see n
   ready_after start see m w n said noted ready more is = (
+    (ap (λ k. k.1) is, (subst (λ p. 0 < p) (sym (ap (λ k. k.0.parts) is ∙ more.parts)) ready.0.1.0, ap (λ k. k.0.waits) is, ap (λ k. k.0.holds) is)),
+    knows_after start see m.0 n.0 ready.1 (ap (λ k. k.0.opened) is ∙ more.opened) (ap (λ k. k.0.start) is ∙ more.start),
+  )
+
+  pub noted_ready : (start : ℕ → ℕ) (see : V → StoreView) (m : Seated E M V) (w : View V E M) (n : Seated E M V) (noted : List M) → IsReady start see m → HasSeenMore m.0 w → n ≡ (passed_noting noted w, []) → IsReady start see n
+  noted_ready start see m w n noted ready more is = (
     (ap (λ k. k.1) is, (subst (λ p. 0 < p) (sym (ap (λ k. k.0.parts) is ∙ more.parts)) ready.0.1.0, ap (λ k. k.0.waits) is, ap (λ k. k.0.holds) is)),
     knows_after start see m.0 n.0 ready.1 (ap (λ k. k.0.opened) is ∙ more.opened) (ap (λ k. k.0.start) is ∙ more.start),
   )

@@ -1,10 +1,10 @@
 -- The laws of the log of changes: each call keeps what became of the opened store.
-use Rattle.std.proofs.Common.{◌≡◌, ℕ, ◌+◌, List, [], ◌∷◌, ◌++◌, length, Option, Some, None, Result, Ok, Err, refl, sym, ap, ◌∙◌, subst, arith, append-nil, append_assoc}
-use Rattle.std.specs.Prelude.{option_map}
+use Rattle.std.proofs.Common.{◌≡◌, ◌≢◌, inl, inr, ℕ, ◌+◌, List, [], ◌∷◌, ◌++◌, length, Option, Some, None, Result, Ok, Err, refl, sym, ap, ◌∙◌, subst, arith, append-nil, append_assoc}
+use Rattle.std.specs.Prelude.{All, Contains, option_map}
 use Rattle.std.specs.Option.{option_map_or, option_or}
 use Rattle.std.specs.Result.{result_err}
 use Rattle.std.proofs.lemmas.List.{length-append, map-append}
-use Rattle.std.proofs.lemmas.List.Elements.{All-nil, All-weaker}
+use Rattle.std.proofs.lemmas.List.Elements.{All-append, All-cons, All-contains, All-map, All-nil, All-weaker, Contains-append_cases}
 use Rattle.std.proofs.lemmas.List.Sums.{fold-append}
 use Rattle.lethe_base.specs.History.{History}
 use Rattle.lethe_base.specs.declared.call.Call.{Call}
@@ -12,21 +12,24 @@ use Rattle.lethe_base.specs.declared.call.Call.TheVariants.{Put, Delete, Erase, 
 use Rattle.lethe_base.specs.declared.call.Did.TheVariants.{Failed}
 use Rattle.lethe_base.specs.declared.config.Fields.{Fields}
 use Rattle.lethe_base.specs.declared.refused.Refused.{Refused}
-use Rattle.lethe_base.specs.declared.refused.Refused.TheVariants.{NoMemory}
+use Rattle.lethe_base.specs.declared.refused.Refused.TheVariants.{Exhausted, NoMemory}
 use Rattle.lethe_cert.specs.declared.certificate.Certificate.{Certificate}
 use Rattle.lethe_core.specs.Asked.{Asked, Makes, Serves, Failure, behind, clock_behind, counted, failure_of, stopped_by}
 use Rattle.lethe_core.specs.Running.{IsSound}
-use Rattle.lethe_core.specs.View.{View, face_of}
+use Rattle.lethe_core.specs.View.{Face, View, face_of}
 use Rattle.lethe_cover.specs.Steps.{with_done, with_failed}
 use Rattle.lethe_disk.specs.Runs.{Continues}
 use Rattle.lethe_disk.proofs.Continuing.{continues_itself, continues_then}
 use Rattle.lethe_engine.specs.Answers.{Answers}
-use Rattle.lethe_engine.specs.StandsFor.{IsCertified, Opened, StandsFor, StandsSince, opened_at}
+use Rattle.lethe_engine.specs.StandsFor.{IsCertified, IsCertifiedBy, Opened, StandsFor, StandsSince, opened_at}
 use Rattle.lethe_state.specs.Clock.{Clock, clock_of}
 use Rattle.lethe_store.specs.declared.entry.Entry.{Entry}
 use Rattle.lethe_store.specs.declared.entry.Mark.{Mark}
+use Rattle.lethe_store.specs.declared.entry.Mark.TheVariants.{Spent}
 use Rattle.lethe_store.specs.StoreViews.{StoreView, IsSameStore, failure_in}
 use Rattle.lethe_store.specs.Entries.{change_of, changes_of, clock_along, clock_by, entries_by, entries_of, failed_at, stopped_behind}
+use Rattle.lethe_store.specs.Diary.{AreNumbered, Diary, IsCertifiedAt, IsSpent, answered_in, certified_in, face_along, face_by, made_in, spent_by}
+use Rattle.lethe_store.specs.DiaryLaws.{answered-append, certified-append, made-append, made_along, numbered-append, rounds_rise, spent_either}
 use Rattle.lethe_store.specs.Since.{AnyMarks, Since}
 
 -- What is entered of a call is what the call says of the history, of the count, of what stopped the store, and of the clock
@@ -111,20 +114,22 @@ clock_is caller (Serves call) (Some why) clock = failed_clocks caller call clock
 -- A certificate that stood stands behind a call, whatever was seen of the store's opening
 
 module _ (config : Fields) (opened : Opened) (h g : History) (old new : View) (on : (start : Opened) → StandsSince config start h old → StandsSince config start g new) (calls : Continues old.disk new.disk) where
+  still_certified : (before_tick : History) (caller : ℕ) (certificate : Certificate) → IsCertifiedBy config opened h old before_tick caller certificate → IsCertifiedBy config opened g new before_tick caller certificate
+  still_certified before_tick caller certificate is = record {
+    moment = is.moment;
+    from = is.from;
+    since = is.since;
+    stands = on (opened_at opened (with_done before_tick caller (Tick certificate.clock)) is.moment) is.stands;
+    number = is.number;
+    before = is.before;
+    each = λ d left. is.each d ((calls.past is.moment d is.stands.later).0 left);
+  }
+
   some_certified : (certificate : Certificate) → IsCertified config opened h old certificate → IsCertified config opened g new certificate
-  some_certified certificate (before_tick, caller, is) = (
-    before_tick,
-    caller,
-    record {
-      moment = is.moment;
-      from = is.from;
-      since = is.since;
-      stands = on (opened_at opened (with_done before_tick caller (Tick certificate.clock)) is.moment) is.stands;
-      number = is.number;
-      before = is.before;
-      each = λ d left. is.each d ((calls.past is.moment d is.stands.later).0 left);
-    },
-  )
+  some_certified certificate (before_tick, caller, is) = (before_tick, caller, still_certified before_tick caller certificate is)
+
+  placed_certified : (told : ℕ × Certificate) → IsCertifiedAt config opened h old told → IsCertifiedAt config opened g new told
+  placed_certified told (before_tick, caller, place, is) = (before_tick, caller, place, still_certified before_tick caller told.1 is)
 
   all_certified : (answered : List Certificate) → StandsFor config opened h old answered → StandsFor config opened g new answered
   all_certified answered stands = record {
@@ -132,13 +137,50 @@ module _ (config : Fields) (opened : Opened) (h g : History) (old new : View) (o
     certified = All-weaker (IsCertified config opened h old) (IsCertified config opened g new) some_certified answered stands.certified;
   }
 
+-- What a call that notes these marks says of its face and its certificates
+pub record IsNoted (Tells : Type 0) (caller : ℕ) (asked : Asked) (why : Option Refused) (more : List Mark) (old new : StoreView) : Type 0 where
+  pub face : face_of new.view ≡ face_along (face_of old.view) more
+  pub numbered : AreNumbered (old.view.pins.made + 1) (made_in more)
+  pub certificates : new.certificates ≡ old.certificates ++ answered_in more
+  pub certified : Tells → (config : Fields) (opened : Opened) (h : History) → StandsSince config opened h old.view → All (IsCertifiedAt config opened (behind h caller asked why) new.view) (certified_in more)
+  pub spent : Contains more Spent → IsSpent Tells old new
+
+pub nothing_noted : Contains [] Spent → ⊥
+nothing_noted has = let few = has.1 in omega (arith, few)
+
+-- one other mark isn't that numbers are used up
+pub none_spent : (mark : Mark) → mark ≢ Spent → Contains (mark ∷ []) Spent → ⊥
+none_spent mark other has = All-contains (λ m. m ≢ Spent) (mark ∷ []) Spent (All-cons (λ m. m ≢ Spent) mark [] other (All-nil (λ m. m ≢ Spent))) has refl
+
+-- a call that notes none leaves both
+pub noted_none : (Tells : Type 0) (caller : ℕ) (asked : Asked) (why : Option Refused) (old new : StoreView) → face_of new.view ≡ face_of old.view → new.certificates ≡ old.certificates → IsNoted Tells caller asked why [] old new
+noted_none Tells caller asked why old new face certificates = record {
+  face = face;
+  numbered = tt;
+  certificates = certificates ∙ sym (append-nil old.certificates);
+  certified = λ told config opened h s. All-nil (IsCertifiedAt config opened (behind h caller asked why) new.view);
+  spent = λ has. absurd (nothing_noted has);
+}
+
+-- a call that leaves face and certificates notes at most that numbers are used up
+pub noted_spent : (Tells : Type 0) (caller : ℕ) (asked : Asked) (why : Option Refused) (old new : StoreView) → face_of new.view ≡ face_of old.view → new.certificates ≡ old.certificates
+    → ((last : ℕ) → why ≡ Some (Exhausted last) → IsSpent Tells old new) → IsNoted Tells caller asked why (spent_by why) old new
+noted_spent Tells caller asked why old new face certificates spent = record {
+  face = spent_either (λ l. face_of new.view ≡ face_along (face_of old.view) l) why face (λ last is. face);
+  numbered = spent_either (λ l. AreNumbered (old.view.pins.made + 1) (made_in l)) why tt (λ last is. tt);
+  certificates = spent_either (λ l. new.certificates ≡ old.certificates ++ answered_in l) why (certificates ∙ sym (append-nil old.certificates)) (λ last is. certificates ∙ sym (append-nil old.certificates));
+  certified = λ told config opened h s. spent_either (λ l. All (IsCertifiedAt config opened (behind h caller asked why) new.view) (certified_in l)) why (All-nil (IsCertifiedAt config opened (behind h caller asked why) new.view))
+      (λ last is. All-nil (IsCertifiedAt config opened (behind h caller asked why) new.view));
+  spent = spent_either (λ l. Contains l Spent → IsSpent Tells old new) why (λ has. absurd (nothing_noted has)) (λ last is has. spent last is);
+}
+
 module _ (Tells PortsFail : Type 0) (o old : StoreView) (entries : List Entry) (marks : List Mark) (since : Since Tells PortsFail o entries marks old) where
   -- whatever history the opened store stood for, it stands for that with the entries
   pub stands_along : Tells → (config : Fields) (opened : Opened) (h : History) → StandsSince config opened h o.view → StandsSince config opened (h ++ changes_of entries) old.view
   stands_along told config opened h s = (since.stands told config opened h [] (record { since = s; certified = All-nil (IsCertified config opened h o.view) })).since
 
-  module _ (new : StoreView) (caller : ℕ) (asked : Asked) (why : Option Refused) (answers : Answers Tells asked why (face_of old.view) old.view new.view)
-      (first : IsFirstFailure old.view.state.stopped old.view.state.count why) (same : new.certificates ≡ old.certificates) where
+  module _ (new : StoreView) (caller : ℕ) (asked : Asked) (why : Option Refused) (face : Face) (answers : Answers Tells asked why face old.view new.view)
+      (first : IsFirstFailure old.view.state.stopped old.view.state.count why) (more : List Mark) (noted : IsNoted Tells caller asked why more old new) where
     abbrev said : List Entry
     said = entries_by caller asked why
 
@@ -149,8 +191,69 @@ module _ (Tells PortsFail : Type 0) (o old : StoreView) (entries : List Entry) (
     calls_behind : Tells → (config : Fields) (opened : Opened) (h : History) → StandsSince config opened (h ++ changes_of entries) old.view → Continues old.view.disk new.view.disk
     calls_behind told config opened h s = let goes = answers.goes told config opened (h ++ changes_of entries) s caller in record { later = goes.later; past = goes.past }
 
-    -- the store behind a call is what became of the opened one by the call's own entry
-    pub since_call : Since Tells PortsFail o (entries ++ said) marks new
+    counts_more : new.view.state.count ≡ old.view.state.count + length said
+    counts_more = answers.count ∙ counted_is caller asked why old.view.state.count
+
+    abbrev grown : History → History
+    grown h = behind (h ++ changes_of entries) caller asked why
+
+    -- what was noted stands behind the call
+    placed_behind : Tells → (config : Fields) (opened : Opened) (h : History) → StandsSince config opened h o.view → All (IsCertifiedAt config opened (grown h) new.view) (certified_in (marks ++ more))
+    placed_behind told config opened h s =
+        let stood = stands_along told config opened h s in
+        let carried = placed_certified config opened (h ++ changes_of entries) (grown h) old.view new.view (λ start on. answers.stands told config start (h ++ changes_of entries) on caller) (calls_behind told config opened h stood) in
+        subst (All (IsCertifiedAt config opened (grown h) new.view)) (sym (certified-append marks more))
+        (All-append (IsCertifiedAt config opened (grown h) new.view) (certified_in marks) (certified_in more)
+        (All-weaker (IsCertifiedAt config opened (h ++ changes_of entries) old.view) (IsCertifiedAt config opened (grown h) new.view) carried (certified_in marks) (since.diary.certified told config opened h s))
+        (noted.certified told config opened (h ++ changes_of entries) stood))
+
+    -- so do all certificates
+    all_behind : Tells → (config : Fields) (opened : Opened) (h : History) (answered : List Certificate) → StandsFor config opened h o.view answered → StandsFor config opened (grown h) new.view (answered ++ answered_in (marks ++ more))
+    all_behind told config opened h answered s =
+        let stood = since.stands told config opened h answered s in
+        let carried = all_certified config opened (h ++ changes_of entries) (grown h) old.view new.view (λ start on. answers.stands told config start (h ++ changes_of entries) on caller) (calls_behind told config opened h stood.since)
+        (answered ++ answered_in marks) stood in
+        let P : Certificate → Type 0 = IsCertified config opened (grown h) new.view in
+        let added : All P (answered_in more) = All-map P (λ (told : ℕ × Certificate). told.1) (certified_in more)
+        (All-weaker (IsCertifiedAt config opened (grown h) new.view) (λ (told : ℕ × Certificate). P told.1) (λ told is. (is.0, is.1, is.3)) (certified_in more) (noted.certified told config opened (h ++ changes_of entries) stood.since)) in
+        record {
+          since = carried.since;
+          certified = subst (All P) (append_assoc answered (answered_in marks) (answered_in more) ∙ ap (λ l. answered ++ l) (sym (answered-append marks more)))
+              (All-append P (answered ++ answered_in marks) (answered_in more) carried.certified added);
+        }
+
+    -- numbers that are used up stay so
+    spent_on : IsSpent Tells o old → IsSpent Tells o new
+    spent_on (inl full) = inl (let more = counts_more in let most = answers.sound.writable.count in omega (arith, full, more, most))
+    spent_on (inr (inl full)) = inr (inl (let more = ap (λ (f : Face). f.made) noted.face ∙ made_along (face_of old.view) more noted.numbered in let most = answers.sound.pins.made in omega (arith, full, more, most)))
+    spent_on (inr (inr (inl full))) = inr (inr (inl (let is = ap (λ (f : Face). f.rounds) noted.face in let rise = rounds_rise (face_of old.view) more in omega (arith, full, is, rise))))
+    spent_on (inr (inr (inr short))) = inr (inr (inr (λ told config opened h s. let was = short told config opened h s in let more = counts_more in let drawn = answers.drawn in omega (arith, was, more, drawn))))
+
+    spent_since : IsSpent Tells old new → IsSpent Tells o new
+    spent_since (inl full) = inl full
+    spent_since (inr (inl full)) = inr (inl full)
+    spent_since (inr (inr (inl full))) = inr (inr (inl full))
+    spent_since (inr (inr (inr short))) = inr (inr (inr (λ told config opened h s. short told config opened (h ++ changes_of entries) (stands_along told config opened h s))))
+
+    spent_behind : Contains (marks ++ more) Spent → IsSpent Tells o new
+    spent_behind has = elim (Contains-append_cases marks more Spent has) [ inl before ↦ spent_on (since.diary.spent before) | inr now ↦ spent_since (noted.spent now) ]
+
+    -- the diary with the call's own marks
+    diary_behind : Diary Tells o (entries ++ said) (marks ++ more) new
+    diary_behind = record {
+      face = noted.face ∙ ap (λ (f : Face). face_along f more) since.diary.face ∙ sym (fold-append face_by (face_of o.view) marks more);
+      numbered = subst (AreNumbered (o.view.pins.made + 1)) (sym (made-append marks more))
+          (numbered-append (o.view.pins.made + 1) (made_in marks) (made_in more) since.diary.numbered
+          (subst (λ n. AreNumbered n (made_in more)) (let m : old.view.pins.made ≡ o.view.pins.made + length (made_in marks) = ap (λ (f : Face). f.made) since.diary.face ∙ made_along (face_of o.view) marks since.diary.numbered in
+          let e : old.view.pins.made + 1 ≡ o.view.pins.made + 1 + length (made_in marks) = omega arith in e) noted.numbered));
+      certificates = noted.certificates ∙ ap (λ l. l ++ answered_in more) since.diary.certificates ∙ append_assoc o.certificates (answered_in marks) (answered_in more)
+          ∙ ap (λ l. o.certificates ++ l) (sym (answered-append marks more));
+      certified = λ told config opened h s. subst (λ l. All (IsCertifiedAt config opened l new.view) (certified_in (marks ++ more))) (history_is h) (placed_behind told config opened h s);
+      spent = spent_behind;
+    }
+
+    -- the store behind a call is what became of the opened one by the call's own entry and its own marks
+    pub since_call : Since Tells PortsFail o (entries ++ said) (marks ++ more) new
     since_call = record {
       sound = answers.sound;
       count = answers.count ∙ counted_is caller asked why old.view.state.count
@@ -161,18 +264,13 @@ module _ (Tells PortsFail : Type 0) (o old : StoreView) (entries : List Entry) (
       clock = answers.clock ∙ clock_is caller asked why (clock_of old.view.state.manifest) ∙ ap (λ (clock : Clock). clock_along clock said) since.clock
           ∙ sym (fold-append (λ (clock : Clock) (entry : Entry). clock_by entry.did entry.call clock) (clock_of o.view.state.manifest) entries said);
       faults = (let a = since.faults in let b = answers.faults in omega arith);
-      face = answers.face_is ∙ since.face;
-      certificates = same ∙ since.certificates;
-      stands = λ told config opened h answered s.
-          let stood = since.stands told config opened h answered s in
-          subst (λ l. StandsFor config opened l new.view answered) (history_is h)
-          (all_certified config opened (h ++ changes_of entries) (behind (h ++ changes_of entries) caller asked why) old.view new.view
-          (λ start on. answers.stands told config start (h ++ changes_of entries) on caller) (calls_behind told config opened h stood.since) answered stood);
+      diary = diary_behind;
+      stands = λ told config opened h answered s. subst (λ l. StandsFor config opened l new.view (answered ++ answered_in (marks ++ more))) (history_is h) (all_behind told config opened h answered s);
       calls = λ told config opened h s.
           continues_then o.view.disk old.view.disk new.view.disk (since.calls told config opened h s) (calls_behind told config opened h (stands_along told config opened h s));
     }
 
--- the opened store has had no entry
+-- the opened store has had no entry and no mark
 pub since_opened : (Tells PortsFail : Type 0) (o : StoreView) → IsSound Tells o.view → Since Tells PortsFail o [] [] o
 since_opened Tells PortsFail o sound = record {
   sound = sound;
@@ -180,13 +278,18 @@ since_opened Tells PortsFail o sound = record {
   stopped = same_stopped o.view.state.stopped o.view.state.count;
   clock = refl;
   faults = omega arith;
-  face = refl;
-  certificates = refl;
-  stands = λ told config opened h answered s. subst (λ l. StandsFor config opened l o.view answered) (sym (append-nil h)) s;
+  diary = record {
+    face = refl;
+    numbered = tt;
+    certificates = sym (append-nil o.certificates);
+    certified = λ told config opened h s. All-nil (IsCertifiedAt config opened (h ++ []) o.view);
+    spent = λ has. absurd (nothing_noted has);
+  };
+  stands = λ told config opened h answered s. subst (λ l. StandsFor config opened (h ++ []) o.view l) (sym (append-nil answered)) (subst (λ l. StandsFor config opened l o.view answered) (sym (append-nil h)) s);
   calls = λ told config opened h s. continues_itself o.view.disk;
 }
 
-nothing_said : (caller : ℕ) (why : Option Refused) → failure_in why ≡ None → entries_by caller (Serves Work) why ≡ []
+pub nothing_said : (caller : ℕ) (why : Option Refused) → failure_in why ≡ None → entries_by caller (Serves Work) why ≡ []
 nothing_said caller None unfailed = refl
 nothing_said caller (Some why) unfailed = ap (λ o. entries_of caller (Work ∷ []) (option_map (λ failure. Failed failure.before failure.after) o)) unfailed
 
@@ -194,7 +297,9 @@ nothing_said caller (Some why) unfailed = ap (λ o. entries_of caller (Work ∷ 
 pub since_same : (Tells PortsFail : Type 0) (o : StoreView) (entries : List Entry) (marks : List Mark) (old new : StoreView) → Since Tells PortsFail o entries marks old → IsSameStore Tells old new → Since Tells PortsFail o entries marks new
 since_same Tells PortsFail o entries marks old new since same =
     subst (λ l. Since Tells PortsFail o l marks new) (ap (λ l. entries ++ l) (nothing_said 0 same.why same.unfailed) ∙ append-nil entries)
-    (since_call Tells PortsFail o old entries marks since new 0 (Serves Work) same.why same.answers (λ failure is. absurd (clash failure (sym same.unfailed ∙ is))) same.certificates)
+    (subst (λ l. Since Tells PortsFail o (entries ++ entries_by 0 (Serves Work) same.why) l new) (append-nil marks)
+    (since_call Tells PortsFail o old entries marks since new 0 (Serves Work) same.why (face_of old.view) same.answers (λ failure is. absurd (clash failure (sym same.unfailed ∙ is))) []
+    (noted_none Tells 0 (Serves Work) same.why old new same.answers.face_is same.certificates)))
   where
     clash : (failure : Failure) → None ≡ Some failure → ⊥
     clash failure is = cc

@@ -1,6 +1,10 @@
 pub mod StoreViews
 pub mod Sessions
 pub mod Entries
+pub mod Diary
+pub mod DiaryLaws
+pub mod Pins
+pub mod Ticks
 pub mod Since
 pub mod Laws
 pub mod Reads

@@ -1,5 +1,5 @@
 //! Changes by sessions.
-ghost use Rattle.std.specs.Prelude.{◌≡◌, ℕ, [], IfOk, IfErr, IsErrOf};
+ghost use Rattle.std.specs.Prelude.{◌≡◌, ℕ, IfOk, IfErr, IsErrOf};
 ghost use Rattle.std.specs.Result.{result_err};
 ghost use Rattle.lethe_base.specs.declared.call.Call.TheVariants as call;
 ghost use Rattle.lethe_base.specs.declared.refused.Refused.TheVariants.{Stopped};
@@ -7,6 +7,7 @@ ghost use Rattle.lethe_core.specs.Asked.{Makes};
 ghost use Rattle.lethe_engine.specs.ChangeRows.{call_of};
 ghost use Rattle.lethe_turn.specs.Seats.{count_of};
 ghost use Rattle.lethe_store.specs.StoreViews.{store_view};
+ghost use Rattle.lethe_store.specs.Diary.{spent_by};
 ghost use Rattle.lethe_store.specs.Entries.{entries_by};
 ghost use Rattle.lethe_store.specs.Since.{all_counted};
 ghost use Rattle.lethe_store.specs.Reasons.{AreLater, HasReasonOfChange, IsStoppedAt, counts_of};
@@ -14,16 +15,13 @@ ghost use Rattle.lethe_store.specs.Sessions.{HasDone, IsReady};
 
 use crate::asking::make;
 use crate::changes::Changes;
-use crate::entry::Mark;
 use crate::session::Session;
 use crate::store::Store;
-use crate::telling::{did_of, number_of, told_call, told_entries};
+use crate::telling::{did_of, number_of, told_answer, told_call, told_entries};
 use lethe_base::{Key, Range, Refused, Value};
 use lethe_disk::Disk;
 use lethe_engine::Asked;
-use lethe_turn::Told;
 use std::alloc::Global;
-use std::marker::Brand;
 use std::sync::Wait;
 
 impl<D: Disk> Store<D, Changes> {
@@ -45,7 +43,7 @@ impl<D: Disk> Store<D, Changes> {
         requires ready { IsReady all_counted (λ o. store_view o.engine) session.old.seat.me }
         ensures of { (session.new.seat.table_id ≡ session.old.seat.table_id) × (session.new.caller ≡ session.old.caller) }
         ensures ready { IsReady all_counted (λ o. store_view o.engine) session.new.seat.me }
-        ensures done { HasDone (entries_by session.old.caller (Makes (call.Put key dkey value)) (result_err result)) [] session.old.seat.me.0 session.new.seat.me.0 }
+        ensures done { HasDone (entries_by session.old.caller (Makes (call.Put key dkey value)) (result_err result)) (spent_by (result_err result)) session.old.seat.me.0 session.new.seat.me.0 }
         ensures place { IfOk result (λ place. place ≡ count_of session.new.seat.me.0) }
         ensures stopped { (at : ℕ) → IsStoppedAt (λ o. store_view o.engine) session.old.seat.me.0 at → IsErrOf result (Stopped at) }
         ensures why { IfErr result (HasReasonOfChange D.tells D.ports_fail (λ o. store_view o.engine) session.new.seat.me.0 (counts_of (D.fetches session.old.port) (D.port_faults session.old.port))
@@ -71,7 +69,7 @@ impl<D: Disk> Store<D, Changes> {
         requires ready { IsReady all_counted (λ o. store_view o.engine) session.old.seat.me }
         ensures of { (session.new.seat.table_id ≡ session.old.seat.table_id) × (session.new.caller ≡ session.old.caller) }
         ensures ready { IsReady all_counted (λ o. store_view o.engine) session.new.seat.me }
-        ensures done { HasDone (entries_by session.old.caller (Makes (call.Delete key)) (result_err result)) [] session.old.seat.me.0 session.new.seat.me.0 }
+        ensures done { HasDone (entries_by session.old.caller (Makes (call.Delete key)) (result_err result)) (spent_by (result_err result)) session.old.seat.me.0 session.new.seat.me.0 }
         ensures place { IfOk result (λ place. place ≡ count_of session.new.seat.me.0) }
         ensures stopped { (at : ℕ) → IsStoppedAt (λ o. store_view o.engine) session.old.seat.me.0 at → IsErrOf result (Stopped at) }
         ensures why { IfErr result (HasReasonOfChange D.tells D.ports_fail (λ o. store_view o.engine) session.new.seat.me.0 (counts_of (D.fetches session.old.port) (D.port_faults session.old.port))
@@ -97,7 +95,7 @@ impl<D: Disk> Store<D, Changes> {
         requires ready { IsReady all_counted (λ o. store_view o.engine) session.old.seat.me }
         ensures of { (session.new.seat.table_id ≡ session.old.seat.table_id) × (session.new.caller ≡ session.old.caller) }
         ensures ready { IsReady all_counted (λ o. store_view o.engine) session.new.seat.me }
-        ensures done { HasDone (entries_by session.old.caller (Makes (call.Erase range)) (result_err result)) [] session.old.seat.me.0 session.new.seat.me.0 }
+        ensures done { HasDone (entries_by session.old.caller (Makes (call.Erase range)) (result_err result)) (spent_by (result_err result)) session.old.seat.me.0 session.new.seat.me.0 }
         ensures place { IfOk result (λ place. place ≡ count_of session.new.seat.me.0) }
         ensures stopped { (at : ℕ) → IsStoppedAt (λ o. store_view o.engine) session.old.seat.me.0 at → IsErrOf result (Stopped at) }
         ensures why { IfErr result (HasReasonOfChange D.tells D.ports_fail (λ o. store_view o.engine) session.new.seat.me.0 (counts_of (D.fetches session.old.port) (D.port_faults session.old.port))
@@ -119,7 +117,7 @@ impl<D: Disk> Store<D, Changes> {
         requires ready { IsReady all_counted (λ o. store_view o.engine) session.old.seat.me }
         ensures of { (session.new.seat.table_id ≡ session.old.seat.table_id) × (session.new.caller ≡ session.old.caller) }
         ensures ready { IsReady all_counted (λ o. store_view o.engine) session.new.seat.me }
-        ensures done { HasDone (entries_by session.old.caller (Makes (call_of asked)) (result_err result)) [] session.old.seat.me.0 session.new.seat.me.0 }
+        ensures done { HasDone (entries_by session.old.caller (Makes (call_of asked)) (result_err result)) (spent_by (result_err result)) session.old.seat.me.0 session.new.seat.me.0 }
         ensures place { IfOk result (λ place. place ≡ count_of session.new.seat.me.0) }
         ensures stopped { (at : ℕ) → IsStoppedAt (λ o. store_view o.engine) session.old.seat.me.0 at → IsErrOf result (Stopped at) }
         ensures why { IfErr result (HasReasonOfChange D.tells D.ports_fail (λ o. store_view o.engine) session.new.seat.me.0 (counts_of (D.fetches session.old.port) (D.port_faults session.old.port))
@@ -131,8 +129,8 @@ impl<D: Disk> Store<D, Changes> {
         let answer = make(&mut held.value.engine, alloc, &mut session.port, asked);
         let did = did_of(&answer);
         let said = told_entries(session.caller, &call, did);
-        let none: Told<Mark> = Told::list::<Brand>();
-        self.give(session, held, &said, number_of(did), &none);
+        let noted = told_answer(&answer);
+        self.give(session, held, &said, number_of(did), &noted);
         answer
     }
 }

@@ -9,10 +9,12 @@ mod changing;
 mod entry;
 mod lent;
 mod log;
+mod pinning;
 mod reading;
 mod session;
 mod store;
 mod telling;
+mod ticking;
 
 pub use changes::Changes;
 pub use entry::{Entry, Mark};

@@ -111,6 +111,18 @@ impl<D: Disk, L: Log> Store<D, L> {
         self.turn.pass_noting(&mut session.seat, held, noted);
     }
 
+    /// Passes the turn on with the store, where marks alone are to be noted.
+    pub fn note(&self, session: &mut Session<D, L>, held: Held<Lent<D, L>>, noted: &Told<L::Mark>)
+        requires of { session.old.seat.table_id ≡ self.now.turn.table.shared.table_id }
+        requires held { Holds session.old.seat.me held.ticket }
+        requires since { IsLedTo (λ o. store_view o.engine) (L.since D.tells D.ports_fail) (passed_noting noted.now.items session.old.seat.me.0) (store_view held.value.engine) }
+        requires fits { L.fits session.old.seat.me.0.marks → L.fits (session.old.seat.me.0.marks ++ noted.now.items) }
+        ensures of { (session.new.seat.table_id ≡ session.old.seat.table_id) × (session.new.caller ≡ session.old.caller) × (session.new.port ≡ session.old.port) }
+        ensures noted { session.new.seat.me ≡ (passed_noting noted.now.items session.old.seat.me.0, []) }
+    {
+        self.turn.pass_noting(&mut session.seat, held, noted);
+    }
+
     /// Passes the turn on with the store, where nothing is to be entered.
     pub fn put_back(&self, session: &mut Session<D, L>, held: Held<Lent<D, L>>)
         requires of { session.old.seat.table_id ≡ self.now.turn.table.shared.table_id }

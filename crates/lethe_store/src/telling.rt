@@ -1,14 +1,18 @@
 //! What is told of each call, in values that have no bytes.
-ghost use Rattle.std.specs.Prelude.{◌≡◌, ℕ, [], ◌∷◌, length};
+ghost use Rattle.std.specs.Prelude.{◌≡◌, ℕ, [], ◌∷◌, length, Some};
 ghost use Rattle.std.specs.Result.{result_err};
 ghost use Rattle.lethe_base.specs.declared.call.Call as calls;
+ghost use Rattle.lethe_base.specs.declared.call.Call.TheVariants.{Tick};
 ghost use Rattle.lethe_core.specs.Asked.{Makes};
 ghost use Rattle.lethe_engine.specs.ChangeRows.{call_of};
+ghost use Rattle.lethe_store.specs.Diary.{spent_by};
 ghost use Rattle.lethe_store.specs.Entries.{did_by, entries_of, failed_by};
+ghost use Rattle.lethe_store.specs.Ticks.{ticked_by};
+ghost use Rattle.lethe_store.specs.declared.entry.Mark.TheVariants.{Made, Released};
 
-use crate::entry::Entry;
+use crate::entry::{Entry, Mark};
 use lethe_base::{Call, Did, Refused};
-use lethe_engine::Asked;
+use lethe_engine::{Asked, Ticked};
 use lethe_turn::{Names, Told};
 use std::marker::Brand;
 
@@ -24,6 +28,90 @@ pub(crate) fn told_call(asked: &Asked) -> Told<Call>
     ensures { result.items ≡ call_of asked.now ∷ [] }
 {
     named_call::<Brand>(asked)
+}
+
+fn named_tick<N: Names<Call>>(to: u64) -> Told<Call>
+    requires { N.named ≡ Tick to ∷ [] }
+    ensures { result.items ≡ Tick to ∷ [] }
+{
+    Told::list::<N>()
+}
+
+/// The call that a tick is.
+pub(crate) fn told_tick(to: u64) -> Told<Call>
+    ensures { result.items ≡ Tick to ∷ [] }
+{
+    named_tick::<Brand>(to)
+}
+
+fn named_made<N: Names<Mark>>(number: u64, limit: u64) -> Told<Mark>
+    requires { N.named ≡ Made number limit ∷ [] }
+    ensures { result.items ≡ Made number limit ∷ [] }
+{
+    Told::list::<N>()
+}
+
+/// The mark of a pin that was made.
+pub(crate) fn told_made(number: u64, limit: u64) -> Told<Mark>
+    ensures { result.items ≡ Made number limit ∷ [] }
+{
+    named_made::<Brand>(number, limit)
+}
+
+fn named_refusal<N: Names<Mark>>(why: &Refused) -> Told<Mark>
+    requires { N.named ≡ spent_by (Some why.now) }
+    ensures { result.items ≡ spent_by (Some why.now) }
+{
+    Told::list::<N>()
+}
+
+/// That numbers are used up, where a call is refused for that.
+pub(crate) fn told_refusal(why: &Refused) -> Told<Mark>
+    ensures { result.items ≡ spent_by (Some why.now) }
+{
+    named_refusal::<Brand>(why)
+}
+
+fn named_answer<N: Names<Mark>>(answer: &Result<u64, Refused>) -> Told<Mark>
+    requires { N.named ≡ spent_by (result_err answer.now) }
+    ensures { result.items ≡ spent_by (result_err answer.now) }
+{
+    Told::list::<N>()
+}
+
+/// The marks of a change that was answered so.
+pub(crate) fn told_answer(answer: &Result<u64, Refused>) -> Told<Mark>
+    ensures { result.items ≡ spent_by (result_err answer.now) }
+{
+    named_answer::<Brand>(answer)
+}
+
+fn named_released<N: Names<Mark>>(number: u64) -> Told<Mark>
+    requires { N.named ≡ Released number ∷ [] }
+    ensures { result.items ≡ Released number ∷ [] }
+{
+    Told::list::<N>()
+}
+
+/// The mark of a pin that is let go.
+pub(crate) fn told_released(number: u64) -> Told<Mark>
+    ensures { result.items ≡ Released number ∷ [] }
+{
+    named_released::<Brand>(number)
+}
+
+fn named_ticked<N: Names<Mark>>(begun: bool, answer: &Result<Ticked, Refused>) -> Told<Mark>
+    requires { N.named ≡ ticked_by begun answer.now }
+    ensures { result.items ≡ ticked_by begun answer.now }
+{
+    Told::list::<N>()
+}
+
+/// The marks of a tick that was begun or wasn't, and was answered so.
+pub(crate) fn told_ticked(begun: bool, answer: &Result<Ticked, Refused>) -> Told<Mark>
+    ensures { result.items ≡ ticked_by begun answer.now }
+{
+    named_ticked::<Brand>(begun, answer)
 }
 
 fn named_entries<N: Names<Entry>>(caller: u64, call: &Told<Call>, did: Option<Did>) -> Told<Entry>
@@ -54,7 +142,7 @@ fn failed_by(why: &Refused) -> Option<Did>
 }
 
 /// How a change went, and None where it is in no history.
-pub(crate) fn did_of(answer: &Result<u64, Refused>) -> Option<Did>
+pub(crate) fn did_of<T>(answer: &Result<T, Refused>) -> Option<Did>
     ensures { (call : calls.Call) → result ≡ did_by (Makes call) (result_err answer.now) }
 {
     match answer {

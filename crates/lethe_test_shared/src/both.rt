@@ -7,6 +7,7 @@ ghost use Rattle.lethe_core.specs.Running.{IsSound};
 ghost use Rattle.lethe_core.specs.View.{view_of};
 ghost use Rattle.lethe_turn.specs.Seats.{count_of};
 ghost use Rattle.lethe_store.specs.StoreViews.{store_view};
+ghost use Rattle.lethe_store.specs.Diary.{spent_by};
 ghost use Rattle.lethe_store.specs.Entries.{entries_by};
 ghost use Rattle.lethe_store.specs.Sessions.{HasDone, IsReady};
 ghost use Rattle.lethe_store.specs.Since.{all_counted};
@@ -46,7 +47,7 @@ fn put_once<D: Disk, R: Wait>(
     requires ready { IsReady all_counted (λ o. store_view o.engine) session.seat.me }
     ensures of { result.0.seat.table_id ≡ session.seat.table_id }
     ensures ready { IsReady all_counted (λ o. store_view o.engine) result.0.seat.me }
-    ensures done { HasDone (entries_by session.caller (Makes (call.Put put.key put.dkey put.value)) (result_err result.1)) [] session.seat.me.0 result.0.seat.me.0 }
+    ensures done { HasDone (entries_by session.caller (Makes (call.Put put.key put.dkey put.value)) (result_err result.1)) (spent_by (result_err result.1)) session.seat.me.0 result.0.seat.me.0 }
     ensures place { IfOk result.1 (λ place. place ≡ count_of result.0.seat.me.0) }
 {
     let Put { key, dkey, value } = put;
@@ -82,14 +83,14 @@ pub fn put_both<D: Disk, R: Threads + Wait + Sync>(
             requires { (one.seat.table_id ≡ shared.now.turn.table.shared.table_id) × IsReady all_counted (λ o. store_view o.engine) one.seat.me }
             ensures of { result.0.seat.table_id ≡ one.seat.table_id }
             ensures ready { IsReady all_counted (λ o. store_view o.engine) result.0.seat.me }
-            ensures done { HasDone (entries_by one.caller (Makes (call.Put first.key first.dkey first.value)) (result_err result.1)) [] one.seat.me.0 result.0.seat.me.0 }
+            ensures done { HasDone (entries_by one.caller (Makes (call.Put first.key first.dkey first.value)) (result_err result.1)) (spent_by (result_err result.1)) one.seat.me.0 result.0.seat.me.0 }
             ensures place { IfOk result.1 (λ place. place ≡ count_of result.0.seat.me.0) }
         { put_once(rt, alloc, shared, one, first) },
         move || -> (Session<D, Changes>, Result<u64, Refused>)
             requires { (other.seat.table_id ≡ shared.now.turn.table.shared.table_id) × IsReady all_counted (λ o. store_view o.engine) other.seat.me }
             ensures of { result.0.seat.table_id ≡ other.seat.table_id }
             ensures ready { IsReady all_counted (λ o. store_view o.engine) result.0.seat.me }
-            ensures done { HasDone (entries_by other.caller (Makes (call.Put second.key second.dkey second.value)) (result_err result.1)) [] other.seat.me.0 result.0.seat.me.0 }
+            ensures done { HasDone (entries_by other.caller (Makes (call.Put second.key second.dkey second.value)) (result_err result.1)) (spent_by (result_err result.1)) other.seat.me.0 result.0.seat.me.0 }
             ensures place { IfOk result.1 (λ place. place ≡ count_of result.0.seat.me.0) }
         { put_once(rt, alloc, shared, other, second) },
     );

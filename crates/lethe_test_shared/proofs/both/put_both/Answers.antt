@@ -9,6 +9,7 @@ use Rattle.lethe_base.specs.declared.call.Call.TheVariants as call
 use Rattle.lethe_core.specs.Asked.{Makes}
 use Rattle.lethe_engine.proofs.Crossing.{refused_send, result_send}
 use Rattle.lethe_store.specs.StoreViews.{store_view}
+use Rattle.lethe_store.specs.Diary.{spent_by}
 use Rattle.lethe_store.specs.Entries.{entries_by}
 use Rattle.lethe_store.specs.Sessions.{HasDone}
 use Rattle.lethe_test_shared.proofs.InOne.{in_one_history}
@@ -51,6 +52,6 @@ returns g c =
     let right = c.join-one.result.1.0.seat.me.0 in
     in_one_history g.D.Disk.tells g.D.Disk.ports_fail (λ o. store_view o.engine) (store_view c.args.engine) (store_view c.finish-engine.result) c.requires f.0 f.2 u v w left right c.join.new.session.seat.me.0
     (ap (λ m. m.0) f.1) c.in-Ok.ensures.split a b c.join-one.result.0.1 c.join-one.result.1.1
-    (subst (λ n. HasDone (entries_by n (Makes a) (result_err c.join-one.result.0.1)) [] v left) (c.in-Ok.ensures.of.1 ∙ c.in_ok-store.ensures.of.1) c.join-one.ensures.first.1.1.0)
-    (subst (λ n. HasDone (entries_by n (Makes b) (result_err c.join-one.result.1.1)) [] w right) c.in-Ok.ensures.other_of.1 c.join-one.ensures.second.1.1.0)
+    (subst (λ n. HasDone (entries_by n (Makes a) (result_err c.join-one.result.0.1)) (spent_by (result_err c.join-one.result.0.1)) v left) (c.in-Ok.ensures.of.1 ∙ c.in_ok-store.ensures.of.1) c.join-one.ensures.first.1.1.0)
+    (subst (λ n. HasDone (entries_by n (Makes b) (result_err c.join-one.result.1.1)) (spent_by (result_err c.join-one.result.1.1)) w right) c.in-Ok.ensures.other_of.1 c.join-one.ensures.second.1.1.0)
     c.join-one.ensures.first.1.1.1 c.join-one.ensures.second.1.1.1 c.join.ensures.joined c.finish-engine.ensures.finished
