@@ -28,11 +28,11 @@ CALLS = (
     ("Range", "delete keys from one up to another", ["lethe_base/src/range.rt"]),
     ("Certificate", "what a tick certifies", ["lethe_cert/src/certificate.rt"]),
     (None, "many changes at once", ["lethe_changes/src/changes.rt"]),
-    ("Store", "a store that several threads share", [f"lethe_store/src/{it}.rt" for it in ("changes", "changing", "reading", "store")]),
+    ("Store", "a store that several threads share", [f"lethe_store/src/{it}.rt" for it in ("changes", "changing", "reading", "ticking", "pinning", "store")]),
     ("Session", "a caller of a shared store", ["lethe_store/src/session.rt"]),
 )
 # What calls of the engine itself make of a job, what contracts alone speak of, and what serves those who share a store by a log of their own.
-INNER = {"Job": {"begun", "refuse", "is_refused", "next_page", "count_written", "take_made"}, "Snapshot": {"of", "release"}, "Store": {"open_with", "take", "learn", "give", "put_back"}}
+INNER = {"Job": {"begun", "refuse", "is_refused", "next_page", "count_written", "take_made"}, "Snapshot": {"of", "release"}, "Store": {"open_with", "take", "learn", "give", "note", "put_back"}}
 TYPES = (
     ("Fields", "lethe_base/src/config.rt"),
     ("Pick", "lethe_base/src/config.rt"),
