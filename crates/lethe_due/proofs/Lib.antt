@@ -1,0 +1,4 @@
+pub mod Ordered
+pub mod Without
+pub mod Walked
+pub mod Relinked
