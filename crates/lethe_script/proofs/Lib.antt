@@ -9,3 +9,4 @@ pub mod SlotLemmas
 pub mod Spelled
 pub mod SpelledLines
 pub mod Taking
+pub mod PhaseLines

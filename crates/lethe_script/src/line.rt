@@ -1,5 +1,5 @@
 //! What one line says.
-ghost use Rattle.std.specs.Prelude.{◌≡◌, map};
+ghost use Rattle.std.specs.Prelude.{◌≡◌, map, codes, IsTrue};
 ghost use Rattle.std.specs.List.{list_all};
 ghost use Rattle.lethe_script.specs.Fields.{is_allowed};
 ghost use Rattle.lethe_script.specs.Grammar.{line_of, fields_say, item_fields, phase_end_of, order_fields, act_of, put_of, put_fields, get_of, scan_of, scan_fields, del_of, erase_fields, erase_of, stat_of, tick_of, pin_of, pget_fields, pget_of, pscan_fields, pscan_of, unpin_of};
@@ -12,7 +12,7 @@ use lethe_base::Range;
 use std::alloc::Global;
 
 /// What the line of this number says, or nothing where it is skipped.
-#[tactic(auto, using(crate::proofs::FieldLemmas::fields_say_kept), unfolding(crate::specs::Grammar::line_of))]
+#[tactic(auto, using(crate::proofs::FieldLemmas::fields_say_kept, crate::proofs::PhaseLines::phase_line), unfolding(crate::specs::Grammar::line_of))]
 pub(crate) fn read_line(
     alloc: Global,
     number: u64,
@@ -20,11 +20,21 @@ pub(crate) fn read_line(
 ) -> Result<Option<Item>, LineRefused>
     ensures { GivesLine (λ item. item) result (line_of number line.now) }
 {
+    if is_phase_word(line) {
+        return Ok(Some(Item::PhaseEnd));
+    }
     if !is_printable(line) {
         return Err(LineRefused::Bad(Why::Byte));
     }
     let fields = fields_of(alloc, line)?;
     said(alloc, number, &fields)
+}
+
+/// The line is the word that ends a phase, alone. It is told without memory for its fields, since a script may have more such lines than orders.
+fn is_phase_word(line: &[u8]) -> bool
+    ensures { IsTrue result → line.now ≡ codes "phase" }
+{
+    line == b"phase".as_slice()
 }
 
 /// Every byte is a space or prints.
