@@ -13,26 +13,18 @@ use lethe_recover::OpenWhy;
 use lethe_script::BadLine;
 use std::alloc::Global;
 
-/// The text of some lines, up to one for which there was no memory.
-#[derive(Debug, Drop)]
-pub(crate) struct Spelled {
-    pub text: Vec<u8>,
-    /// There was memory for all of them.
-    pub whole: bool,
-}
-
-/// The text of the lines, up to one for which there is no memory.
-pub(crate) fn spell(alloc: Global, lines: &[Line]) -> Spelled
-    ensures front { (rest : Bytes) × (lines_text lines.now ≡ result.text.items ++ rest) }
-    ensures whole { IsTrue result.whole → result.text.items ≡ lines_text lines.now }
+/// Makes the text that of the lines, up to one for which there is no memory. `false` where there is one.
+pub(crate) fn spell(text: &mut Vec<u8>, alloc: Global, lines: &[Line]) -> bool
+    ensures front { (rest : Bytes) × (lines_text lines.now ≡ text.new.items ++ rest) }
+    ensures whole { IsTrue result → text.new.items ≡ lines_text lines.now }
 {
-    let mut text = Vec::new(alloc);
+    text.clear();
     for line in lines {
-        if add_line(&mut text, alloc, line).is_err() {
-            return Spelled { text, whole: false };
+        if add_line(text, alloc, line).is_err() {
+            return false;
         }
     }
-    Spelled { text, whole: true }
+    true
 }
 
 /// Adds a line, or leaves the text as it was.

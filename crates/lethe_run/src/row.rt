@@ -138,6 +138,9 @@ pub(crate) fn serve_row<D: Disk>(
     ensures room { vec_len lines.new + length queue.new.changes.items ≤ vec_len lines.old + length queue.old.changes.items }
     ensures capacity { vec_capacity lines.old ≤ vec_capacity lines.new }
 {
+    if queue.changes.is_empty() {
+        return true;
+    }
     let caller = queue.caller;
     let row = &mut queue.changes;
     'rows: loop {

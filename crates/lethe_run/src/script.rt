@@ -13,7 +13,7 @@ ghost use Rattle.lethe_run.specs.Scripts.{ScriptEnds, IsCutBy, reason_for};
 ghost use Rattle.lethe_run.specs.Printed.{lines_text};
 ghost use Rattle.lethe_run.specs.Transcript.{Lines, is_refusal};
 
-use crate::print::{Spelled, spell};
+use crate::print::spell;
 use crate::reason::Reason;
 use crate::reply::{Line, Reply};
 use crate::serve::{Served, serve_phase};
@@ -74,9 +74,10 @@ fn serve_phases<K: Sink, D: Disk>(
 {
     let mut refused = None;
     let mut printed: u64 = 0;
+    let mut text = Vec::new(alloc);
     for orders in phases.into_vec() {
         let served = serve_phase(&mut engine, alloc, &mut port, &mut slots, orders.into_vec());
-        if let Err(why) = print_phase(alloc, sink, &served) {
+        if let Err(why) = print_phase(alloc, sink, &mut text, &served) {
             return (why, slots.hand_back(engine));
         }
         refused = first_refusal(refused, printed, &served.lines);
@@ -85,15 +86,20 @@ fn serve_phases<K: Sink, D: Disk>(
     (reason_for(refused), slots.hand_back(engine))
 }
 
-/// Prints the lines of a phase. What was written is a front of them, whatever it answers.
-fn print_phase<K: Sink>(alloc: Global, sink: &mut K, served: &Served) -> Result<(), Reason>
+/// Prints the lines of a phase, over the room that the text of an earlier one had. What was written is a front of them, whatever it answers.
+fn print_phase<K: Sink>(
+    alloc: Global,
+    sink: &mut K,
+    text: &mut Vec<u8>,
+    served: &Served,
+) -> Result<(), Reason>
     ensures front { AppendsFront (K.taken sink.old) (K.taken sink.new) (lines_text served.now.lines.items) }
     ensures ok { OnOk result (IsTrue served.now.whole × Appends (K.taken sink.old) (K.taken sink.new) (lines_text served.now.lines.items)) }
     ensures err { IfErr result (IsCutBy (IsTrue served.now.whole) (Rose (K.faults sink.old) (K.faults sink.new))) }
     ensures faults { K.faults sink.old ≤ K.faults sink.new }
 {
-    let Spelled { text, whole } = spell(alloc, &served.lines);
-    let written = write_all(sink, &text);
+    let whole = spell(text, alloc, &served.lines);
+    let written = write_all(sink, text);
     if !served.whole {
         return Err(Reason::NoMemory);
     }

@@ -1,5 +1,7 @@
-use Rattle.std.proofs.Common.{rules, ◌≡◌, ◌∷◌, [], Some, true, cond, length, refl, ap, subst, ◌∙◌, arith}
+use Rattle.std.proofs.Common.{rules, ◌≡◌, ◌∷◌, [], Some, true, cond, length, refl, sym, ap, subst, ◌∙◌, arith}
 use mathlib.Core.Bool.{false≢true}
+use Rattle.std.specs.Prelude.{deque_len}
+use Rattle.std.proofs.lemmas.Bool.{eqb-true}
 use Rattle.lethe_core.specs.View.{Face, view_of}
 use Rattle.lethe_script.specs.Slots.{held_behind}
 use Rattle.lethe_script.specs.declared.order.Order.{Order}
@@ -20,6 +22,16 @@ rows-init g c =
       room = omega arith;
       capacity = omega arith;
     }
+
+pub returns-then-is_empty-clause-served : goal.returns-then-is_empty-clause-served
+returns-then-is_empty-clause-served g c =
+    let changes = c.args.queue.now.changes in
+    let size = changes.ok.0 in
+    let none : changes.items ≡ [] = no_more changes.items (omega (arith, size, eqb-true (deque_len changes) 0 (sym c.if-is_empty.ensures))) in (
+      changes.items,
+      (λ is. none),
+      served_none g.D.Disk.tells g.D.Disk.ports_fail c.args.queue.now.caller changes.items c.args.lines.now.items (view_of c.args.engine.now.core) c.args.slots.now.held.items,
+    )
 
 pub returns-then-not-make_row-clause-served : goal.returns-then-not-make_row-clause-served
 returns-then-not-make_row-clause-served g c =
