@@ -1,7 +1,7 @@
 use denote.Builtin.{u64}
 use denote.Param.{param}
 use denote.Param.Send.{param_send, sendable}
-use Rattle.std.proofs.Common.{[], ap, ◌∙◌, subst}
+use Rattle.std.proofs.Common.{ap, ◌∙◌, subst}
 use Rattle.std.proofs.Crossing.{crosses}
 use Rattle.std.specs.Result.{result_err}
 use Rattle.lethe_base.specs.contracts.refused.Refused as Refused
