@@ -9,7 +9,7 @@ use Rattle.lethe_core.specs.View.{View, face_of}
 use Rattle.lethe_pins.specs.Held.{first_limit_of}
 use Rattle.lethe_pins.specs.declared.pin.Pin.{Pin}
 use Rattle.lethe_engine.specs.Ticks as engine
-use Rattle.lethe_engine.specs.Ticks.{IsBarred, IsTickable, lets_pass, passes}
+use Rattle.lethe_engine.specs.Ticks.{IsTickable, lets_pass, passes}
 use Rattle.lethe_engine.specs.declared.ticking.Ticked.{Ticked}
 use Rattle.lethe_engine.proofs.Ticks.{passes_not}
 use Rattle.lethe_store.specs.Ticks.{IsBegunBy}

@@ -18,7 +18,7 @@ use Rattle.lethe_cert.specs.declared.certificate.Certificate.{Certificate}
 use Rattle.lethe_core.specs.Asked.{Makes, behind}
 use Rattle.lethe_core.specs.Running.{IsSound}
 use Rattle.lethe_core.specs.View as core
-use Rattle.lethe_core.specs.View.{Face, Limited, face_of, limited_of}
+use Rattle.lethe_core.specs.View.{Face, face_of, limited_of}
 use Rattle.lethe_cover.specs.Steps.{with_done}
 use Rattle.lethe_disk.specs.Directory.{Directory}
 use Rattle.lethe_engine.specs.Answers.{Answers}
