@@ -1,5 +1,5 @@
 -- What the clients' runs come to.
-use Rattle.std.proofs.Common.{◌≡◌, ◌⊎◌, ◌∙◌, ◌<◌, ◌*◌, ℕ, suc, take, Bool, true, false, ◌||◌, List, [], ◌∷◌, Option, Some, None, refl, sym, ap, subst, arith, inl, inr, length, lit≤, append-nil}
+use Rattle.std.proofs.Common.{◌≡◌, ◌⊎◌, ◌∙◌, ◌<◌, ◌*◌, ℕ, suc, take, false, List, [], ◌∷◌, Option, Some, None, refl, sym, ap, subst, arith, length, lit≤, append-nil}
 use Rattle.std.specs.Prelude.{All}
 use Rattle.std.specs.Fmt.{digits}
 use Rattle.std.proofs.lemmas.List.{length-append}
@@ -27,22 +27,17 @@ use Rattle.lethe_run.specs.declared.reply.Line.{Line}
 use Rattle.lethe_run.specs.declared.reply.Line.TheVariants.{Answer}
 use Rattle.lethe_run.specs.declared.reply.Reply.TheVariants.{Done}
 use Rattle.lethe_run.specs.declared.reply.Reply.TheVariants as replies
-use Rattle.lethe_test_client.specs.Roomy.{HasRoom, IsRoomyDisk, IsRoomySink, disk_room}
+use Rattle.lethe_test_client.specs.Roomy.{IsRoomyDisk, IsRoomySink, disk_room}
 use Rattle.lethe_test_client.specs.Runs.{client_run, empty_disk}
 use Rattle.lethe_test_client.specs.Scripts.{IsTickText, get_order, get_text, put_and_get, put_and_tick, put_order, the_put, the_tick, tick_order, tick_text}
 use Rattle.lethe_test_client.proofs.Empty.{first_number, left_for_nothing}
-use Rattle.lethe_test_client.proofs.Ending.{IsOver, ended}
+use Rattle.lethe_test_client.proofs.Ending.{IsOver, calm, ended}
 use Rattle.lethe_test_client.proofs.Ending as ending
 use Rattle.lethe_run.proofs.TurnLaws.{one_order_of_lines, one_order_of_orders}
-use Rattle.lethe_test_client.proofs.Lines.{InOneTurn, IsFirstTick, IsSure, get_answered, get_lines, tick_answered}
+use Rattle.lethe_test_client.proofs.Lines.{InOneTurn, IsFirstTick, get_answered, get_lines, tick_answered}
 use Rattle.lethe_test_client.proofs.Reading.{put_and_get_read, put_and_tick_read}
-use Rattle.lethe_test_client.proofs.Replies.{IsCalm}
 
 -- One phase
-
-either_false : (a : Bool) → a || false ≡ false → a ≡ false
-either_false false e = refl
-either_false true e = e
 
 both_of_one : (first second : Order) → first.caller ≡ 1 → second.caller ≡ 1 → All (λ (order : Order). order.caller ≡ 1) (first ∷ second ∷ [])
 both_of_one first second a b =
@@ -70,14 +65,10 @@ module _ (course : Course) (orders : List Order) (h : History) (own : All (λ (o
       let same : ts ≡ ls = one_order_of_lines ls ts 1 (all_of_one (record { history = h; course = course }) orders ls own answered) first.order in
       (ls, refl, (λ i. same i ∷ []), record { answered = answered; turns = subst (λ ts. InTurn course 0 ts (length h)) same first.turns })
 
-sure_of : (course : Course) (ls : List Line) → IsCalm course ⊎ (has_refusal (ls ∷ []) ≡ false) → IsSure course ls
-sure_of course ls (inl calm) = inl calm
-sure_of course ls (inr none) = inr (either_false _ none)
-
 only_one : (orders : List Order) (n : ℕ) → take (suc n) (orders ∷ []) ≡ orders ∷ []
 only_one orders n = grind arith
 
-module _ (sink : Wired) (disk : Held) where
+module _ (sink : Wired) (disk : Held) (roomy : IsRoomyDisk disk) (roomy_sink : IsRoomySink sink) where
   abbrev course : Bytes → Course
   course script = course_of (client_run script sink disk) default_fields 3
 
@@ -95,12 +86,11 @@ module _ (sink : Wired) (disk : Held) where
     is : lines ≡ get_lines ∷ []
     leaves : IsLeft default_fields (seen_of disk) (the_put ∷ []) None
 
-  get_expected : (lines : List (List Line)) → IsCalm (course put_and_get) ⊎ (has_refusal lines ≡ false) → IsOver put_and_get sink disk default_fields gets lines → IsGot lines
-  get_expected lines ok carries =
+  get_expected : (lines : List (List Line)) → IsOver put_and_get sink disk default_fields gets lines → IsGot lines
+  get_expected lines carries =
       let out = carried put_and_get gets lines carries in
       let one = one_served (course put_and_get) (put_order ∷ get_order ∷ []) out.history (both_of_one put_order get_order refl refl) refl out.opened lines carries.turned out.either out.served in
-      let sure = sure_of (course put_and_get) one.0 (subst (λ l. IsCalm (course put_and_get) ⊎ (has_refusal l ≡ false)) one.1 ok) in
-      let found = get_answered (course put_and_get) out.history one.0 one.3 sure in
+      let found = get_answered (course put_and_get) out.history one.0 one.3 (calm put_and_get sink disk roomy) in
       record { is = one.1 ∙ ap (λ l. l ∷ []) found.0; leaves = subst (λ h. IsLeft default_fields (seen_of disk) (without_failed h) (failed_in h)) found.1 out.leaves }
 
   get_printed : text_of (get_lines ∷ []) ≡ get_text
@@ -113,22 +103,24 @@ module _ (sink : Wired) (disk : Held) where
   get_short : (lines : List (List Line)) → IsGot lines → length (text_of lines) < sink_room
   get_short lines got = let long : length (text_of lines) ≡ 22 = ap (λ l. length (text_of l)) got.is ∙ ap length get_printed in omega (arith, long)
 
-  pub get_ends : (status : ℕ) → Ends (client_run put_and_get sink disk) status → IsRoomyDisk disk → IsRoomySink sink → HasRoom disk → (status ≡ 0) ⊎ (status ≡ 7)
-  get_ends status ends roomy roomy_sink room =
-      ended put_and_get gets IsGot sink disk put_and_get_read (lit≤ tt) (only_one _) get_expected get_unrefused get_short roomy roomy_sink room status ends
+  pub get_ends : (status : ℕ) → Ends (client_run put_and_get sink disk) status → (status ≡ 0) ⊎ (status ≡ 7)
+  get_ends = ended put_and_get gets IsGot sink disk put_and_get_read (lit≤ tt) (only_one _) get_expected get_unrefused get_short roomy roomy_sink
 
-  got : (status : ℕ) → Ends (client_run put_and_get sink disk) status → IsRoomyDisk disk → IsRoomySink sink → status ≡ 0 → (lines : List (List Line)) × IsGot lines × (sink.bytes ≡ text_of lines)
-  got status ends roomy roomy_sink zero = ending.printed put_and_get gets IsGot sink disk put_and_get_read (lit≤ tt) (only_one _) get_expected get_unrefused get_short roomy roomy_sink status ends zero
+  got : (status : ℕ) → Ends (client_run put_and_get sink disk) status → status ≡ 0 → (lines : List (List Line)) × IsGot lines × (sink.bytes ≡ text_of lines)
+  got = ending.printed put_and_get gets IsGot sink disk put_and_get_read (lit≤ tt) (only_one _) get_expected get_unrefused get_short roomy roomy_sink
 
-  pub get_prints : (status : ℕ) → Ends (client_run put_and_get sink disk) status → IsRoomyDisk disk → IsRoomySink sink → status ≡ 0 → sink.bytes ≡ get_text
-  get_prints status ends roomy roomy_sink zero =
-      let all = got status ends roomy roomy_sink zero in
+  pub get_prints : (status : ℕ) → Ends (client_run put_and_get sink disk) status → status ≡ 0 → sink.bytes ≡ get_text
+  get_prints status ends zero =
+      let all = got status ends zero in
       all.2 ∙ ap text_of all.1.is ∙ get_printed
 
-  pub get_leaves : (status : ℕ) → Ends (client_run put_and_get sink disk) status → IsRoomyDisk disk → IsRoomySink sink → status ≡ 0 → IsLeft default_fields (seen_of disk) (the_put ∷ []) None
-  get_leaves status ends roomy roomy_sink zero = (got status ends roomy roomy_sink zero).1.leaves
+  pub get_leaves : (status : ℕ) → Ends (client_run put_and_get sink disk) status → status ≡ 0 → IsLeft default_fields (seen_of disk) (the_put ∷ []) None
+  get_leaves status ends zero = (got status ends zero).1.leaves
 
   -- The put and the tick
+
+  abbrev ticks : List (List Order)
+  ticks = (put_order ∷ tick_order ∷ []) ∷ []
 
   abbrev tick_lines : Ticked → List Line
   tick_lines ticked = Answer 1 (Done 1) ∷ Answer 1 (replies.Ticked ticked) ∷ []
@@ -158,17 +150,16 @@ module _ (sink : Wired) (disk : Held) where
           let same : certificate ≡ record { number = 1; clock = 1000; before = 0; digest = digest } = cc in
           ap length (sym (ap (λ c. c.digest) same) ∙ sym committed.digest) ∙ length-sha256 (manifest_bytes committed.manifest)
 
-  tick_expected : (lines : List (List Line)) → IsCalm (course put_and_tick) ⊎ (has_refusal lines ≡ false) → IsOver put_and_tick sink disk default_fields ((put_order ∷ tick_order ∷ []) ∷ []) lines → IsTick lines
-  tick_expected lines ok carries =
+  tick_expected : (lines : List (List Line)) → IsOver put_and_tick sink disk default_fields ticks lines → IsTick lines
+  tick_expected lines carries =
       let orders = put_order ∷ tick_order ∷ [] in
       let out = carried put_and_tick (orders ∷ []) lines carries in
       let own = both_of_one put_order tick_order refl refl in
       let one = one_served (course put_and_tick) orders out.history own refl out.opened lines carries.turned out.either out.served in
-      let sure = sure_of (course put_and_tick) one.0 (subst (λ l. IsCalm (course put_and_tick) ⊎ (has_refusal l ≡ false)) one.1 ok) in
       let plain = carries.told in
       let through = subst (λ l. AreToldThrough ⊥ 0 disk.faults (orders ∷ []) plain.opened l carries.turned plain.end) one.1 plain.told in
       let told = one_told plain.opened plain.end orders one.0 own (subst (λ t. AreToldThrough ⊥ 0 disk.faults (orders ∷ []) plain.opened (one.0 ∷ []) t plain.end) one.2 through) in
-      let found = tick_answered ⊥ 0 disk.faults (course put_and_tick) out.history plain.opened told.0 one.0 refl plain.unpinned told.1 one.3 sure in
+      let found = tick_answered ⊥ 0 disk.faults (course put_and_tick) out.history plain.opened told.0 one.0 refl plain.unpinned told.1 one.3 (calm put_and_tick sink disk roomy) in
       let same = one.1 ∙ ap (λ l. l ∷ []) found.3 in
       let borne = subst (λ l. All (λ line. All (IsBorneOut default_fields 0 out.history (seen_of disk)) (certificates_in line)) l) same out.certified in
       record {
@@ -199,16 +190,16 @@ module _ (sink : Wired) (disk : Held) where
       let long : length (encode_lower tick.digest) ≡ 64 = length-encode_with _ tick.digest ∙ ap (λ n. 2 * n) tick.long in
       omega (arith, ap length text, length-append (encode_lower tick.digest) (10 ∷ []), long)
 
-  pub tick_ends : (status : ℕ) → Ends (client_run put_and_tick sink disk) status → IsRoomyDisk disk → IsRoomySink sink → HasRoom disk → (status ≡ 0) ⊎ (status ≡ 7)
-  tick_ends status ends roomy roomy_sink room =
-      ended put_and_tick ((put_order ∷ tick_order ∷ []) ∷ []) IsTick sink disk put_and_tick_read (lit≤ tt) (only_one _) tick_expected tick_unrefused tick_short roomy roomy_sink room status ends
+  pub tick_ends : (status : ℕ) → Ends (client_run put_and_tick sink disk) status → (status ≡ 0) ⊎ (status ≡ 7)
+  tick_ends = ended put_and_tick ticks IsTick sink disk put_and_tick_read (lit≤ tt) (only_one _) tick_expected tick_unrefused tick_short roomy roomy_sink
 
-  pub tick_prints : (status : ℕ) → Ends (client_run put_and_tick sink disk) status → IsRoomyDisk disk → IsRoomySink sink → status ≡ 0 → IsTickText sink.bytes
-  tick_prints status ends roomy roomy_sink zero =
-      let all = ending.printed put_and_tick ((put_order ∷ tick_order ∷ []) ∷ []) IsTick sink disk put_and_tick_read (lit≤ tt) (only_one _) tick_expected tick_unrefused tick_short roomy roomy_sink status ends zero in
+  tick_told : (status : ℕ) → Ends (client_run put_and_tick sink disk) status → status ≡ 0 → (lines : List (List Line)) × IsTick lines × (sink.bytes ≡ text_of lines)
+  tick_told = ending.printed put_and_tick ticks IsTick sink disk put_and_tick_read (lit≤ tt) (only_one _) tick_expected tick_unrefused tick_short roomy roomy_sink
+
+  pub tick_prints : (status : ℕ) → Ends (client_run put_and_tick sink disk) status → status ≡ 0 → IsTickText sink.bytes
+  tick_prints status ends zero =
+      let all = tick_told status ends zero in
       (all.1.digest, all.1.long, all.2 ∙ ap text_of all.1.is ∙ tick_printed all.1.ticked all.1.digest all.1.first)
 
-  pub tick_leaves : (status : ℕ) → Ends (client_run put_and_tick sink disk) status → IsRoomyDisk disk → IsRoomySink sink → status ≡ 0 → IsLeft default_fields (seen_of disk) (the_put ∷ the_tick ∷ []) None
-  tick_leaves status ends roomy roomy_sink zero =
-      let all = ending.printed put_and_tick ((put_order ∷ tick_order ∷ []) ∷ []) IsTick sink disk put_and_tick_read (lit≤ tt) (only_one _) tick_expected tick_unrefused tick_short roomy roomy_sink status ends zero in
-      all.1.leaves
+  pub tick_leaves : (status : ℕ) → Ends (client_run put_and_tick sink disk) status → status ≡ 0 → IsLeft default_fields (seen_of disk) (the_put ∷ the_tick ∷ []) None
+  tick_leaves status ends zero = (tick_told status ends zero).1.leaves

@@ -1,7 +1,6 @@
 -- Which two lines answer a put and what comes behind it, over a new store.
-use Rattle.std.proofs.Common.{◌≡◌, ◌⊎◌, ◌∙◌, ℕ, take, Bool, true, false, ◌||◌, List, [], ◌∷◌, Option, Some, None, refl, ap, subst, arith, inl, inr, length}
+use Rattle.std.proofs.Common.{◌≡◌, ◌∙◌, ℕ, take, false, List, [], ◌∷◌, Option, Some, None, refl, ap, subst, arith, length}
 use Rattle.std.specs.Prelude.{codes, Contains, IfSome}
-use Rattle.std.specs.List.{list_any}
 use Rattle.lethe_base.specs.History.{History, after, change_at}
 use Rattle.lethe_base.specs.Read as answers
 use Rattle.lethe_base.specs.Keys.{Bytes}
@@ -23,25 +22,12 @@ use Rattle.lethe_test_client.specs.Scripts.{get_order, put_order, the_put, the_t
 use Rattle.lethe_test_client.proofs.Changes.{found_put, take_one, take_two, whole}
 use Rattle.lethe_test_client.proofs.Replies.{IsCalm, never_refused, put_done, got_here, tick_done}
 
--- no line is refused, or none could be
-abbrev pub IsSure : Course → List Line → Type 0
-IsSure course lines = IsCalm course ⊎ (list_any is_refusal lines ≡ false)
-
-first_false : (a b : Bool) → a || (b || false) ≡ false → a ≡ false
-first_false false b e = refl
-first_false true b e = e
-
-second_false : (a b : Bool) → a || (b || false) ≡ false → b ≡ false
-second_false false false e = refl
-second_false false true e = e
-second_false true b e = absurd (let clash : true ≡ false = e in cc)
-
 -- The lines answer the orders of one caller one after another, over a new store.
 pub record InOneTurn (course : Course) (orders : List Order) (lines : List Line) (h : History) : Type 0 where
   pub answered : transcript.Answered (record { history = h; course = course }) orders lines
   pub turns : InTurn course 0 lines (length h)
 
--- Two lines, each of which isn't refused
+-- Two lines, neither of which is refused, since the disk never failed
 
 module _ (course : Course) (h : History) where
   abbrev told : transcript.Told
@@ -58,24 +44,16 @@ module _ (course : Course) (h : History) where
     pub ends : length h ≡ end
 
   behind_put : (second : Order) (c1 c2 : ℕ) (r1 r2 : Reply) → transcript.Answered told (put_order ∷ second ∷ []) (Answer c1 r1 ∷ Answer c2 r2 ∷ [])
-      → InTurn course 0 (Answer c1 r1 ∷ Answer c2 r2 ∷ []) (length h) → IsSure course (Answer c1 r1 ∷ Answer c2 r2 ∷ []) → (end : ℕ) × IsBehindPut second c1 r1 r2 end
-  behind_put second c1 c2 r1 r2 a turn sure =
-      let unrefused1 : is_refusal (Answer 1 r1) ≡ false = elim sure [
-        | inl calm ↦ never_refused told calm 1 0 turn.0 put_order.act r1 (omega arith) a.1 turn.1
-        | inr none ↦ subst (λ c. is_refusal (Answer c r1) ≡ false) a.0 (first_false (is_refusal (Answer c1 r1)) (is_refusal (Answer c2 r2)) none)
-      ] in
-      let done = put_done told 1 0 turn.0 (codes "a") 5 (codes "x") r1 unrefused1 a.1 turn.1 in
-      let follows = subst (λ n. transcript.Follows course n r2 turn.2.0) done.1 turn.2.1 in
-      let unrefused2 : is_refusal (Answer second.caller r2) ≡ false = elim sure [
-        | inl calm ↦ never_refused told calm second.caller 1 turn.2.0 second.act r2 (omega arith) a.2.1 follows
-        | inr none ↦ subst (λ c. is_refusal (Answer c r2) ≡ false) a.2.0 (second_false (is_refusal (Answer c1 r1)) (is_refusal (Answer c2 r2)) none)
-      ] in (
+      → InTurn course 0 (Answer c1 r1 ∷ Answer c2 r2 ∷ []) (length h) → IsCalm course → (end : ℕ) × IsBehindPut second c1 r1 r2 end
+  behind_put second c1 c2 r1 r2 a turn calm =
+      let done = put_done told 1 0 turn.0 (codes "a") 5 (codes "x") r1 (never_refused told calm 1 0 turn.0 put_order.act r1 (omega arith) a.1 turn.1) a.1 turn.1 in
+      let follows = subst (λ n. transcript.Follows course n r2 turn.2.0) done.1 turn.2.1 in (
         turn.2.0,
         record {
           done = done.0;
           caller_is = a.0;
           put = take_one h the_put (subst (λ r. transcript.Answers told 1 put_order.act r) done.0 a.1);
-          unrefused = unrefused2;
+          unrefused = never_refused told calm second.caller 1 turn.2.0 second.act r2 (omega arith) a.2.1 follows;
           answered = a.2.1;
           follows = follows;
           ends = turn.2.2;
@@ -94,12 +72,12 @@ get_lines = Answer 1 (Done 1) ∷ Answer 1 (Got 1 (Some (5, codes "x"))) ∷ []
 found_in : (h : History) (held : Option (ℕ × Bytes)) → take 1 h ≡ the_put ∷ [] → answers.Found held ≡ answers.answer (after (take 1 h)) (answers.Get (codes "a")) → held ≡ Some (5, codes "x")
 found_in h held put is = let same : answers.Found held ≡ answers.Found (Some (5, codes "x")) = is ∙ ap (λ l. answers.answer (after l) (answers.Get (codes "a"))) put ∙ found_put in cc
 
-pub get_answered : (course : Course) (h : History) (lines : List Line) → InOneTurn course (put_order ∷ get_order ∷ []) lines h → IsSure course lines → (lines ≡ get_lines) × (h ≡ the_put ∷ [])
-get_answered course h [] served sure = absurd served.answered
-get_answered course h (Answer c1 r1 ∷ []) served sure = absurd served.answered.2
-get_answered course h (Answer c1 r1 ∷ Answer c2 r2 ∷ line ∷ more) served sure = absurd served.answered.2.2
-get_answered course h (Answer c1 r1 ∷ Answer c2 r2 ∷ []) served sure =
-    let behind = behind_put course h get_order c1 c2 r1 r2 served.answered served.turns sure in
+pub get_answered : (course : Course) (h : History) (lines : List Line) → InOneTurn course (put_order ∷ get_order ∷ []) lines h → IsCalm course → (lines ≡ get_lines) × (h ≡ the_put ∷ [])
+get_answered course h [] served calm = absurd served.answered
+get_answered course h (Answer c1 r1 ∷ []) served calm = absurd served.answered.2
+get_answered course h (Answer c1 r1 ∷ Answer c2 r2 ∷ line ∷ more) served calm = absurd served.answered.2.2
+get_answered course h (Answer c1 r1 ∷ Answer c2 r2 ∷ []) served calm =
+    let behind = behind_put course h get_order c1 c2 r1 r2 served.answered served.turns calm in
     let got = got_here (told course h) 1 1 behind.0 (codes "a") r2 behind.1.unrefused behind.1.answered behind.1.follows in (
       two c1 c2 r1 r2 _ behind.1.caller_is behind.1.done served.answered.2.0 (got.1 ∙ ap (λ o. Got 1 o) (found_in h got.0 behind.1.put got.3)),
       whole h 1 (the_put ∷ []) behind.1.put (behind.1.ends ∙ got.2),
@@ -155,13 +133,13 @@ module _ (P : Type 0) (from upto : ℕ) (s t : Standing) (c1 c2 : ℕ) (r1 r2 : 
       omega (arith, there.1)
 
 pub tick_answered : (P : Type 0) (from upto : ℕ) (course : Course) (h : History) (s t : Standing) (lines : List Line) → course.config.threshold ≡ 1000 → s.pins ≡ no_pins
-    → AreTold P from upto (put_order ∷ tick_order ∷ []) s lines t → InOneTurn course (put_order ∷ tick_order ∷ []) lines h → IsSure course lines
+    → AreTold P from upto (put_order ∷ tick_order ∷ []) s lines t → InOneTurn course (put_order ∷ tick_order ∷ []) lines h → IsCalm course
     → (ticked : Ticked) × (digest : Bytes) × IsFirstTick ticked digest × (lines ≡ Answer 1 (Done 1) ∷ Answer 1 (replies.Ticked ticked) ∷ []) × (h ≡ the_put ∷ the_tick ∷ [])
-tick_answered P from upto course h s t [] threshold free known served sure = absurd served.answered
-tick_answered P from upto course h s t (Answer c1 r1 ∷ []) threshold free known served sure = absurd served.answered.2
-tick_answered P from upto course h s t (Answer c1 r1 ∷ Answer c2 r2 ∷ line ∷ more) threshold free known served sure = absurd served.answered.2.2
-tick_answered P from upto course h s t (Answer c1 r1 ∷ Answer c2 r2 ∷ []) threshold free known served sure =
-    let behind = behind_put course h tick_order c1 c2 r1 r2 served.answered served.turns sure in
+tick_answered P from upto course h s t [] threshold free known served calm = absurd served.answered
+tick_answered P from upto course h s t (Answer c1 r1 ∷ []) threshold free known served calm = absurd served.answered.2
+tick_answered P from upto course h s t (Answer c1 r1 ∷ Answer c2 r2 ∷ line ∷ more) threshold free known served calm = absurd served.answered.2.2
+tick_answered P from upto course h s t (Answer c1 r1 ∷ Answer c2 r2 ∷ []) threshold free known served calm =
+    let behind = behind_put course h tick_order c1 c2 r1 r2 served.answered served.turns calm in
     let early : (after (take 1 h)).clock ≡ 0 = ap (λ l. (after l).clock) behind.1.put in
     let done = tick_done (told course h) 1 1 behind.0 1000 r2 behind.1.unrefused behind.1.answered behind.1.follows (unbarred P from upto s t c1 c2 r1 r2 free known behind.1.done) (omega (arith, early)) in
     let first = first_tick course h done.0 threshold behind.1.put done.2 done.4 in (

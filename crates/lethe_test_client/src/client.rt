@@ -5,7 +5,7 @@ ghost use Rattle.lethe_base.specs.Configuration.{default_fields};
 ghost use Rattle.lethe_memdisk.specs.Held.{seen_of};
 ghost use Rattle.lethe_run.specs.Ends.{Ends};
 ghost use Rattle.lethe_stored.specs.Left.{IsLeft};
-ghost use Rattle.lethe_test_client.specs.Roomy.{HasRoom, IsRoomyDisk, IsRoomySink};
+ghost use Rattle.lethe_test_client.specs.Roomy.{IsRoomyDisk, IsRoomySink};
 ghost use Rattle.lethe_test_client.specs.Runs.{client_run};
 ghost use Rattle.lethe_test_client.specs.Scripts.{put_and_get, put_and_tick, get_text, IsTickText, the_put, the_tick};
 
@@ -17,6 +17,7 @@ use lethe_memdisk::MemDisk;
 use lethe_run::run;
 use lethe_wire::MemSink;
 use std::alloc::Global;
+use std::sync::Wait;
 
 /// What a run left.
 #[derive(Drop)]
@@ -28,7 +29,7 @@ pub struct Left {
 }
 
 /// Runs a script with the default configuration over an empty disk.
-fn run_script(alloc: Global, script: &[u8]) -> Result<Left, NoMemory>
+fn run_script<R: Wait + Sync>(rt: &R, alloc: Global, script: &[u8]) -> Result<Left, NoMemory>
     ensures ends { IfOk result (λ left. Ends (client_run script.now left.sink left.disk) left.status) }
     ensures disk { IfOk result (λ left. IsRoomyDisk left.disk) }
     ensures sink { IfOk result (λ left. IsRoomySink left.sink) }
@@ -36,7 +37,7 @@ fn run_script(alloc: Global, script: &[u8]) -> Result<Left, NoMemory>
     let words = command(alloc)?;
     let mut source = SteadySource::new(alloc, script.to_vec(alloc)?);
     let mut sink = RoomySink::new(alloc)?;
-    let disk = RoomyDisk::new(alloc)?;
+    let disk = RoomyDisk::new(rt, alloc)?;
     let ended = run(alloc, &words, &mut source, &mut sink, disk);
     Ok(Left {
         status: ended.status,
@@ -54,22 +55,22 @@ fn command(alloc: Global) -> Result<Vec<String>, NoMemory>
     Ok(words)
 }
 
-/// Puts a value and gets it. On a disk with room, which it has for a thousand calls, all is answered, or there was no memory; and where all was answered, just its two lines are printed,
-/// and the disk is left for the put alone.
-pub fn put_and_get(alloc: Global) -> Result<Left, NoMemory>
-    ensures ends { IfOk result (λ left. HasRoom left.disk → (left.status ≡ 0) ⊎ (left.status ≡ 7)) }
+/// Puts a value and gets it. All is answered, or there was no memory; and where all was answered, just its two lines are printed, and the disk is left for the put alone. Past the disk's room,
+/// a thousand calls, it never returns.
+pub fn put_and_get<R: Wait + Sync>(rt: &R, alloc: Global) -> Result<Left, NoMemory>
+    ensures ends { IfOk result (λ left. (left.status ≡ 0) ⊎ (left.status ≡ 7)) }
     ensures printed { IfOk result (λ left. left.status ≡ 0 → left.sink.bytes ≡ get_text) }
     ensures leaves { IfOk result (λ left. left.status ≡ 0 → IsLeft default_fields (seen_of left.disk) (the_put ∷ []) None) }
 {
-    run_script(alloc, b"1 put a 5 x\n1 get a\n")
+    run_script(rt, alloc, b"1 put a 5 x\n1 get a\n")
 }
 
 /// Puts a value and moves the clock to the threshold. It ends so too, and where all was answered, two lines are printed, the second with the first certificate,
 /// and the disk is left for the put and the tick.
-pub fn put_and_tick(alloc: Global) -> Result<Left, NoMemory>
-    ensures ends { IfOk result (λ left. HasRoom left.disk → (left.status ≡ 0) ⊎ (left.status ≡ 7)) }
+pub fn put_and_tick<R: Wait + Sync>(rt: &R, alloc: Global) -> Result<Left, NoMemory>
+    ensures ends { IfOk result (λ left. (left.status ≡ 0) ⊎ (left.status ≡ 7)) }
     ensures printed { IfOk result (λ left. left.status ≡ 0 → IsTickText left.sink.bytes) }
     ensures leaves { IfOk result (λ left. left.status ≡ 0 → IsLeft default_fields (seen_of left.disk) (the_put ∷ the_tick ∷ []) None) }
 {
-    run_script(alloc, b"1 put a 5 x\n1 tick 1000\n")
+    run_script(rt, alloc, b"1 put a 5 x\n1 tick 1000\n")
 }

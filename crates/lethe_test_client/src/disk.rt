@@ -1,26 +1,28 @@
-//! A disk that fails only where it is full.
+//! A disk that never fails.
 ghost use Rattle.std.specs.Prelude.{◌≡◌, ◌≤◌, ◌<◌, ◌+◌, ⊤, [], Some, None, length, IfOk, IsSome, IsSomeAnd, IsErrOf, OnOk};
 ghost use Rattle.std.specs.FinMap.{empty, keys};
 ghost use Rattle.lethe_disk.specs.Directory.{object, content};
 ghost use Rattle.lethe_disk.specs.Disk.{IsSynced};
-ghost use Rattle.lethe_test_client.specs.Roomy.{IsRoomyDisk, disk_room};
+ghost use Rattle.lethe_test_client.specs.Roomy.{IsFull, IsRoomyDisk, disk_room};
 
 use lethe_base::{Kind, Name, NoMemory};
 use lethe_disk::{Disk, DiskRefused};
 use lethe_memdisk::{MemDisk, MemPage, MemPort};
 use std::alloc::Global;
 use std::marker::Model;
+use std::sync::Wait;
 
 /// How many device calls a disk has room for.
 pub const DISK_ROOM: u64 = 1000;
 
-/// A disk in memory, which fails only past its room, whose calls are those of the disk in it.
+/// A disk in memory with room for a thousand device calls, which are those of the disk in it. It never fails: a call past its room waits forever.
 #[derive(Drop)]
-pub struct RoomyDisk {
+pub struct RoomyDisk<'a, R: Wait + Sync> {
+    rt: &'a R,
     inner: MemDisk,
 }
 
-impl Model for RoomyDisk {
+impl<'a, R: Wait + Sync> Model for RoomyDisk<'a, R> {
     ghost use Rattle.lethe_memdisk.specs.Held.{Held, held_code};
     ghost use Rattle.lethe_test_client.specs.Roomy.{IsRoomyDisk};
 
@@ -33,28 +35,53 @@ impl Model for RoomyDisk {
     ghost invariant = { λ d. IsRoomyDisk d.inner };
 }
 
-impl RoomyDisk {
+impl<'a, R: Wait + Sync> RoomyDisk<'a, R> {
     ghost use Rattle.lethe_memdisk.specs.Held.{fresh};
 
     /// An empty disk.
-    pub fn new(alloc: Global) -> Result<RoomyDisk, NoMemory>
+    pub fn new(rt: &'a R, alloc: Global) -> Result<RoomyDisk<'a, R>, NoMemory>
         ensures { IfOk result (λ disk. disk ≡ fresh empty disk_room []) }
     {
         Ok(RoomyDisk {
+            rt,
             inner: MemDisk::new(alloc, DISK_ROOM, Vec::new(alloc))?,
         })
     }
 
     /// The disk in it.
     pub fn into_inner(self) -> MemDisk
-        ensures inner { result ≡ self }
-        ensures roomy { IsRoomyDisk self }
+        ensures inner { result ≡ self.entry }
+        ensures roomy { IsRoomyDisk self.entry }
     {
         self.inner
     }
 }
 
-impl Disk for RoomyDisk {
+/// Hands on what a call answered, and never returns where it failed, which it does only past the room.
+fn unfailing<R: Wait, T>(
+    rt: &R,
+    disk: &MemDisk,
+    answer: Result<T, DiskRefused>,
+) -> Result<T, DiskRefused>
+    requires full { IsErrOf answer DiskRefused.Failed → IsFull disk.now }
+    ensures same { result ≡ answer }
+    ensures unfailing { IsErrOf result DiskRefused.Failed → ⊥ }
+{
+    match answer {
+        Err(DiskRefused::Failed) => wait_forever(rt, disk),
+        other => other,
+    }
+}
+
+/// Never returns.
+fn wait_forever<R: Wait>(rt: &R, disk: &MemDisk) -> !
+    requires { IsFull disk.now }
+{
+    for _ in rt.forever() {}
+    unreachable!()
+}
+
+impl<'a, R: Wait + Sync> Disk for RoomyDisk<'a, R> {
     type Page = MemPage;
 
     type Port = MemPort;
@@ -83,7 +110,8 @@ impl Disk for RoomyDisk {
         requires { object (seen_of self.old).directory name ≡ None }
         ensures { Answers (Created name bytes.now) result self.old self.new }
     {
-        self.inner.create(name, bytes)
+        let answer = self.inner.create(name, bytes);
+        unfailing(self.rt, &self.inner, answer)
     }
 
     fn write_at(&mut self, name: Name, at: u64, bytes: &[u8]) -> Result<(), DiskRefused>
@@ -91,7 +119,8 @@ impl Disk for RoomyDisk {
         ensures call { Answers (Written name at bytes.now) result self.old self.new }
         ensures byte { length bytes.now ≡ 1 → at < length (content (seen_of self.old).directory name) → IsErrOf result DiskRefused.NoMemory → ⊥ }
     {
-        self.inner.write_at(name, at, bytes)
+        let answer = self.inner.write_at(name, at, bytes);
+        unfailing(self.rt, &self.inner, answer)
     }
 
     fn remove(&mut self, name: Name) -> Result<(), DiskRefused>
@@ -99,7 +128,8 @@ impl Disk for RoomyDisk {
         ensures call { Answers (Removed name) result self.old self.new }
         ensures no_memory { IsErrOf result DiskRefused.NoMemory → ⊥ }
     {
-        self.inner.remove(name)
+        let answer = self.inner.remove(name);
+        unfailing(self.rt, &self.inner, answer)
     }
 
     fn sync(&mut self) -> Result<(), DiskRefused>
@@ -107,14 +137,16 @@ impl Disk for RoomyDisk {
         ensures no_memory { IsErrOf result DiskRefused.NoMemory → ⊥ }
         ensures done { OnOk result (IsSynced (seen_of self.new)) }
     {
-        self.inner.sync()
+        let answer = self.inner.sync();
+        unfailing(self.rt, &self.inner, answer)
     }
 
     fn names(&mut self, alloc: Global) -> Result<Vec<Name>, DiskRefused>
         ensures call { Answers Nothing result self.old self.new }
         ensures done { IfOk result (λ names. names.items ≡ keys (seen_of self.old).directory) }
     {
-        self.inner.names(alloc)
+        let answer = self.inner.names(alloc);
+        unfailing(self.rt, &self.inner, answer)
     }
 
     fn read(&mut self, alloc: Global, name: Name) -> Result<Vec<u8>, DiskRefused>
@@ -122,7 +154,8 @@ impl Disk for RoomyDisk {
         ensures call { Answers Nothing result self.old self.new }
         ensures done { IfOk result (λ bytes. object (seen_of self.old).directory name ≡ Some bytes.items) }
     {
-        self.inner.read(alloc, name)
+        let answer = self.inner.read(alloc, name);
+        unfailing(self.rt, &self.inner, answer)
     }
 
     fn open_page(&mut self, alloc: Global, name: Name) -> Result<MemPage, DiskRefused>
@@ -131,7 +164,8 @@ impl Disk for RoomyDisk {
         ensures call { Answers Nothing result self.old self.new }
         ensures done { IfOk result (λ page. object (seen_of self.old).directory name ≡ Some page) }
     {
-        self.inner.open_page(alloc, name)
+        let answer = self.inner.open_page(alloc, name);
+        unfailing(self.rt, &self.inner, answer)
     }
 
     fn port(&mut self, alloc: Global) -> Result<MemPort, NoMemory>
