@@ -17,12 +17,12 @@ pub const DISK_ROOM: u64 = 1000;
 
 /// A disk in memory with room for a thousand device calls, which are those of the disk in it. It never fails: a call past its room waits forever.
 #[derive(Drop)]
-pub struct RoomyDisk<'a, R: Wait + Sync> {
-    rt: &'a R,
+pub struct RoomyDisk<R: Wait + Send + Drop> {
+    rt: R,
     inner: MemDisk,
 }
 
-impl<'a, R: Wait + Sync> Model for RoomyDisk<'a, R> {
+impl<R: Wait + Send + Drop> Model for RoomyDisk<R> {
     ghost use Rattle.lethe_memdisk.specs.Held.{Held, held_code};
     ghost use Rattle.lethe_test_client.specs.Roomy.{IsRoomyDisk};
 
@@ -35,11 +35,11 @@ impl<'a, R: Wait + Sync> Model for RoomyDisk<'a, R> {
     ghost invariant = { λ d. IsRoomyDisk d.inner };
 }
 
-impl<'a, R: Wait + Sync> RoomyDisk<'a, R> {
+impl<R: Wait + Send + Drop> RoomyDisk<R> {
     ghost use Rattle.lethe_memdisk.specs.Held.{fresh};
 
     /// An empty disk.
-    pub fn new(rt: &'a R, alloc: Global) -> Result<RoomyDisk<'a, R>, NoMemory>
+    pub fn new(rt: R, alloc: Global) -> Result<RoomyDisk<R>, NoMemory>
         ensures { IfOk result (λ disk. disk ≡ fresh empty disk_room []) }
     {
         Ok(RoomyDisk {
@@ -50,8 +50,8 @@ impl<'a, R: Wait + Sync> RoomyDisk<'a, R> {
 
     /// The disk in it.
     pub fn into_inner(self) -> MemDisk
-        ensures inner { result ≡ self.entry }
-        ensures roomy { IsRoomyDisk self.entry }
+        ensures inner { result ≡ self }
+        ensures roomy { IsRoomyDisk self }
     {
         self.inner
     }
@@ -81,7 +81,7 @@ fn wait_forever<R: Wait>(rt: &R, disk: &MemDisk) -> !
     unreachable!()
 }
 
-impl<'a, R: Wait + Sync> Disk for RoomyDisk<'a, R> {
+impl<R: Wait + Send + Drop> Disk for RoomyDisk<R> {
     type Page = MemPage;
 
     type Port = MemPort;
@@ -111,7 +111,7 @@ impl<'a, R: Wait + Sync> Disk for RoomyDisk<'a, R> {
         ensures { Answers (Created name bytes.now) result self.old self.new }
     {
         let answer = self.inner.create(name, bytes);
-        unfailing(self.rt, &self.inner, answer)
+        unfailing(&self.rt, &self.inner, answer)
     }
 
     fn write_at(&mut self, name: Name, at: u64, bytes: &[u8]) -> Result<(), DiskRefused>
@@ -120,7 +120,7 @@ impl<'a, R: Wait + Sync> Disk for RoomyDisk<'a, R> {
         ensures byte { length bytes.now ≡ 1 → at < length (content (seen_of self.old).directory name) → IsErrOf result DiskRefused.NoMemory → ⊥ }
     {
         let answer = self.inner.write_at(name, at, bytes);
-        unfailing(self.rt, &self.inner, answer)
+        unfailing(&self.rt, &self.inner, answer)
     }
 
     fn remove(&mut self, name: Name) -> Result<(), DiskRefused>
@@ -129,7 +129,7 @@ impl<'a, R: Wait + Sync> Disk for RoomyDisk<'a, R> {
         ensures no_memory { IsErrOf result DiskRefused.NoMemory → ⊥ }
     {
         let answer = self.inner.remove(name);
-        unfailing(self.rt, &self.inner, answer)
+        unfailing(&self.rt, &self.inner, answer)
     }
 
     fn sync(&mut self) -> Result<(), DiskRefused>
@@ -138,7 +138,7 @@ impl<'a, R: Wait + Sync> Disk for RoomyDisk<'a, R> {
         ensures done { OnOk result (IsSynced (seen_of self.new)) }
     {
         let answer = self.inner.sync();
-        unfailing(self.rt, &self.inner, answer)
+        unfailing(&self.rt, &self.inner, answer)
     }
 
     fn names(&mut self, alloc: Global) -> Result<Vec<Name>, DiskRefused>
@@ -146,7 +146,7 @@ impl<'a, R: Wait + Sync> Disk for RoomyDisk<'a, R> {
         ensures done { IfOk result (λ names. names.items ≡ keys (seen_of self.old).directory) }
     {
         let answer = self.inner.names(alloc);
-        unfailing(self.rt, &self.inner, answer)
+        unfailing(&self.rt, &self.inner, answer)
     }
 
     fn read(&mut self, alloc: Global, name: Name) -> Result<Vec<u8>, DiskRefused>
@@ -155,7 +155,7 @@ impl<'a, R: Wait + Sync> Disk for RoomyDisk<'a, R> {
         ensures done { IfOk result (λ bytes. object (seen_of self.old).directory name ≡ Some bytes.items) }
     {
         let answer = self.inner.read(alloc, name);
-        unfailing(self.rt, &self.inner, answer)
+        unfailing(&self.rt, &self.inner, answer)
     }
 
     fn open_page(&mut self, alloc: Global, name: Name) -> Result<MemPage, DiskRefused>
@@ -165,7 +165,7 @@ impl<'a, R: Wait + Sync> Disk for RoomyDisk<'a, R> {
         ensures done { IfOk result (λ page. object (seen_of self.old).directory name ≡ Some page) }
     {
         let answer = self.inner.open_page(alloc, name);
-        unfailing(self.rt, &self.inner, answer)
+        unfailing(&self.rt, &self.inner, answer)
     }
 
     fn port(&mut self, alloc: Global) -> Result<MemPort, NoMemory>
