@@ -34,6 +34,6 @@ same_run words source script before sink told start disk left status w s b d t l
     subst (λ (run : Run). Ends run status) path ends
 
 pub returns-clause-ends : goal.returns-clause-ends
-returns-clause-ends c =
+returns-clause-ends g c =
     same_run (map string_bytes c.deref.result.now) c.new-source.result c.args.script.now c.in_ok-sink.sink c.run-ended.new.sink c.into_inner.result c.in_ok-disk.disk c.run-ended.result.disk c.into_inner-2.result c.run-ended.result.status
     (ap (map string_bytes) c.deref.ensures.value ∙ c.in_ok-words.ensures) (c.new-source.ensures ∙ c.in_ok-to_vec.ensures.items_if_clones_equal (λ x y e. e)) c.in_ok-sink.ensures c.in_ok-disk.ensures c.into_inner.ensures.inner c.into_inner-2.ensures.inner c.run-ended.ensures.ends
