@@ -160,7 +160,7 @@ module _ (sink : Wired) (disk : Held) (roomy : IsRoomyDisk disk) (roomy_sink : I
       let through = subst (λ l. AreToldThrough ⊥ 0 disk.faults (orders ∷ []) plain.opened l carries.turned plain.end) one.1 plain.told in
       let told = one_told plain.opened plain.end orders one.0 own (subst (λ t. AreToldThrough ⊥ 0 disk.faults (orders ∷ []) plain.opened (one.0 ∷ []) t plain.end) one.2 through) in
       let found = tick_answered ⊥ 0 disk.faults (course put_and_tick) out.history plain.opened told.0 one.0 refl plain.unpinned told.1 one.3 (calm put_and_tick sink disk roomy) in
-      let same = one.1 ∙ ap (λ l. l ∷ []) found.3 in
+      let same = one.1 ∙ ap (λ l. l ∷ []) {y = tick_lines found.0} found.3 in
       let borne = subst (λ l. All (λ line. All (IsBorneOut default_fields 0 out.history (seen_of disk)) (certificates_in line)) l) same out.certified in
       record {
         ticked = found.0;
