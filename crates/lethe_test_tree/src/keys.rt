@@ -56,36 +56,36 @@ fn a_front_stands_before_what_it_is_a_front_of(rt: HostRuntime) {
     assert!(rt; stand_by_length(alloc, &rt, &tree));
 }
 
-/// The place in the history of a key's entry.
-fn seq_of<L: Ledger>(tree: &TreeBuffer, key: &Key, blank: Blank) -> Option<u64>
+/// Keys neither in order nor against it.
+const TEXTS: [&[u8]; 3] = [b"b", b"a", b"c"];
+
+/// Puts entries of one key, at the places from 0 to the last one.
+fn put_again(alloc: Global, rt: &impl Abort, tree: &mut TreeBuffer, text: &[u8], last: u64) {
+    for seq in 0..=last {
+        insert(rt, tree, entry_of(key_of(alloc, rt, text), seq));
+    }
+}
+
+fn check_replaced<L: Ledger, R: Abort>(rt: &R, alloc: Global, blank: Blank)
     requires name { blank.name ≡ L.name }
     requires parts { blank.parts ≡ L.parts }
     requires shared { 0 < blank.parts }
 {
     let mut steps = Steps::<L>::begin(blank);
-    tree.look(key, &mut steps).map(|entry| entry.seq)
-}
-
-/// Whether the tree has that many entries, and a look finds the key's, of this place in the history.
-fn has_last<L: Ledger>(tree: &TreeBuffer, key: &Key, count: usize, seq: u64, blank: Blank) -> bool
-    requires name { blank.name ≡ L.name }
-    requires parts { blank.parts ≡ L.parts }
-    requires shared { 0 < blank.parts }
-{
-    tree.len() == count && seq_of::<L>(tree, key, blank) == Some(seq)
+    let mut tree = TreeBuffer::new(alloc);
+    for text in TEXTS {
+        put_again(alloc, rt, &mut tree, text, 0);
+    }
+    for text in TEXTS {
+        put_again(alloc, rt, &mut tree, text, 1_000);
+        let key = key_of(alloc, rt, text);
+        let seq = tree.look(&key, &mut steps).map_or(0, |entry| entry.seq);
+        assert!(rt; seq == 1_000);
+    }
+    assert!(rt; tree.len() == TEXTS.len());
 }
 
 #[test]
 fn a_key_that_comes_again_replaces_its_entry(rt: HostRuntime) {
-    let alloc = rt.alloc();
-    let mut tree = TreeBuffer::new(alloc);
-    for text in [b"b", b"a", b"c"] {
-        insert(&rt, &mut tree, entry_of(key_of(alloc, &rt, text), 0));
-    }
-    for text in [b"a", b"b", b"c"] {
-        for seq in 1..=1_000 {
-            insert(&rt, &mut tree, entry_of(key_of(alloc, &rt, text), seq));
-        }
-        assert!(rt; has_last::<Brand>(&tree, &key_of(alloc, &rt, text), 3, 1_000, Blank::new(1)));
-    }
+    check_replaced::<Brand, HostRuntime>(&rt, rt.alloc(), Blank::new(1));
 }

@@ -79,7 +79,7 @@ fn copies(alloc: Global, rt: &impl Abort, tree: &TreeBuffer, sorted: &VecBuffer)
         &mut copy,
         entry_of(key_of(alloc, rt, &ABOVE.to_be_bytes()), COUNT),
     );
-    same && copy.len() == sorted.len() + 1 && have_same_list(tree, sorted)
+    same && sorted.len().checked_add(1) == Some(copy.len()) && have_same_list(tree, sorted)
 }
 
 fn check(alloc: Global, rt: &impl Abort, order: Order, count: usize) {
