@@ -26,7 +26,7 @@ pub enum Ask {
     Put,
     Delete,
     Tick(u64),
-    /// A pin, where none is held there.
+    /// A pin. One that was held there before is released.
     Pin(Which),
     Release(Which),
     Read(Which),
@@ -149,7 +149,7 @@ fn told_pin<D: Disk>(snapshot: &Snapshot<D>) -> Told {
     }
 }
 
-fn pin<D: Disk, R: Wait + Abort>(
+fn pin<D: Disk, R: Wait>(
     alloc: Global,
     rt: &R,
     store: &Shared<D>,
@@ -164,7 +164,8 @@ fn pin<D: Disk, R: Wait + Abort>(
     match store.pin(rt, alloc, session) {
         Ok(snapshot) => {
             let told = told_pin(&snapshot);
-            assert!(rt; place.replace(snapshot).is_none());
+            let before = place.replace(snapshot);
+            let_one_go(rt, store, session, before);
             told
         }
         Err(why) => Told::Refused(why),

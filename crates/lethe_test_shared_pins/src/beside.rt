@@ -6,7 +6,7 @@ ghost use Rattle.lethe_store.specs.Sessions.{IsReady};
 
 use crate::checks::{check_numbers, check_pins, check_places, check_ticks};
 use crate::common::{Caller, Shared, empty_disk, shared, split};
-use crate::turns::{Beaten, ONE, OTHER, Pinned, fifty_pins, fifty_ticks};
+use crate::turns::{Tick, ONE, OTHER, Pin, fifty_pins, fifty_ticks};
 use lethe_disk::Disk;
 use std::alloc::Global;
 use std::process::Abort;
@@ -20,7 +20,7 @@ fn pins_beside_ticks<D: Disk, R: Threads + Wait + Abort + Sync>(
     store: &Shared<D>,
     one: Caller<D>,
     other: Caller<D>,
-) -> ((Caller<D>, Vec<Pinned>), (Caller<D>, Vec<Beaten>))
+) -> ((Caller<D>, Vec<Pin>), (Caller<D>, Vec<Tick>))
     requires of { (one.seat.table_id ≡ store.now.turn.table.shared.table_id) × (other.seat.table_id ≡ store.now.turn.table.shared.table_id) }
     requires ready { IsReady all_counted (λ o. store_view o.engine) one.seat.me × IsReady all_counted (λ o. store_view o.engine) other.seat.me }
     ensures of { (result.0.0.seat.table_id ≡ store.now.turn.table.shared.table_id) × (result.1.0.seat.table_id ≡ store.now.turn.table.shared.table_id) }
@@ -28,11 +28,11 @@ fn pins_beside_ticks<D: Disk, R: Threads + Wait + Abort + Sync>(
 {
     join(
         rt,
-        move || -> (Caller<D>, Vec<Pinned>)
+        move || -> (Caller<D>, Vec<Pin>)
             requires { (one.seat.table_id ≡ store.now.turn.table.shared.table_id) × IsReady all_counted (λ o. store_view o.engine) one.seat.me }
             ensures { (result.0.seat.table_id ≡ one.seat.table_id) × IsReady all_counted (λ o. store_view o.engine) result.0.seat.me }
         { fifty_pins(alloc, rt, store, one, (OTHER, ONE)) },
-        move || -> (Caller<D>, Vec<Beaten>)
+        move || -> (Caller<D>, Vec<Tick>)
             requires { (other.seat.table_id ≡ store.now.turn.table.shared.table_id) × IsReady all_counted (λ o. store_view o.engine) other.seat.me }
             ensures { (result.0.seat.table_id ≡ other.seat.table_id) × IsReady all_counted (λ o. store_view o.engine) result.0.seat.me }
         { fifty_ticks(alloc, rt, store, other) },
@@ -46,7 +46,7 @@ fn pins_beside_both<D: Disk, R: Threads + Wait + Abort + Sync>(
     store: &Shared<D>,
     one: Caller<D>,
     others: (Caller<D>, Caller<D>),
-) -> ((Caller<D>, Vec<Pinned>), ((Caller<D>, Vec<Pinned>), (Caller<D>, Vec<Beaten>)))
+) -> ((Caller<D>, Vec<Pin>), ((Caller<D>, Vec<Pin>), (Caller<D>, Vec<Tick>)))
     requires of { (one.seat.table_id ≡ store.now.turn.table.shared.table_id) × (others.0.seat.table_id ≡ store.now.turn.table.shared.table_id) × (others.1.seat.table_id ≡ store.now.turn.table.shared.table_id) }
     requires ready { IsReady all_counted (λ o. store_view o.engine) one.seat.me × IsReady all_counted (λ o. store_view o.engine) others.0.seat.me × IsReady all_counted (λ o. store_view o.engine) others.1.seat.me }
     ensures of { (result.0.0.seat.table_id ≡ store.now.turn.table.shared.table_id) × (result.1.0.0.seat.table_id ≡ store.now.turn.table.shared.table_id) × (result.1.1.0.seat.table_id ≡ store.now.turn.table.shared.table_id) }
@@ -55,11 +55,11 @@ fn pins_beside_both<D: Disk, R: Threads + Wait + Abort + Sync>(
     let (other, third) = others;
     join(
         rt,
-        move || -> (Caller<D>, Vec<Pinned>)
+        move || -> (Caller<D>, Vec<Pin>)
             requires { (one.seat.table_id ≡ store.now.turn.table.shared.table_id) × IsReady all_counted (λ o. store_view o.engine) one.seat.me }
             ensures { (result.0.seat.table_id ≡ one.seat.table_id) × IsReady all_counted (λ o. store_view o.engine) result.0.seat.me }
         { fifty_pins(alloc, rt, store, one, (ONE, OTHER)) },
-        move || -> ((Caller<D>, Vec<Pinned>), (Caller<D>, Vec<Beaten>))
+        move || -> ((Caller<D>, Vec<Pin>), (Caller<D>, Vec<Tick>))
             requires of { (other.seat.table_id ≡ store.now.turn.table.shared.table_id) × (third.seat.table_id ≡ store.now.turn.table.shared.table_id) }
             requires ready { IsReady all_counted (λ o. store_view o.engine) other.seat.me × IsReady all_counted (λ o. store_view o.engine) third.seat.me }
             ensures of { (result.0.0.seat.table_id ≡ store.now.turn.table.shared.table_id) × (result.1.0.seat.table_id ≡ store.now.turn.table.shared.table_id) }
@@ -68,7 +68,7 @@ fn pins_beside_both<D: Disk, R: Threads + Wait + Abort + Sync>(
     )
 }
 
-fn check_all(rt: &impl Abort, one: &[Pinned], other: &[Pinned], ticks: &[Beaten]) -> u64 {
+fn check_all(rt: &impl Abort, one: &[Pin], other: &[Pin], ticks: &[Tick]) -> u64 {
     check_numbers(rt, one, other);
     check_pins(rt, one, other, ticks);
     check_pins(rt, other, one, ticks);

@@ -1,15 +1,15 @@
 //! What fifty pins of each of two sessions and fifty ticks have to have told, whatever their order was.
 
-use crate::turns::{Beaten, Pinned};
+use crate::turns::{Tick, Pin};
 use lethe_engine::Ticked;
 use std::process::Abort;
 
-fn has_number(pins: &[Pinned], number: u64) -> bool {
+fn has_number(pins: &[Pin], number: u64) -> bool {
     pins.iter().any(|pin| pin.number == number)
 }
 
 /// The numbers have to be 1 to 100, each once.
-pub fn check_numbers(rt: &impl Abort, one: &[Pinned], other: &[Pinned]) {
+pub fn check_numbers(rt: &impl Abort, one: &[Pin], other: &[Pin]) {
     assert!(rt; one.len() == 50 && other.len() == 50);
     for number in 1..101 {
         let (here, there) = (has_number(one, number), has_number(other, number));
@@ -18,7 +18,7 @@ pub fn check_numbers(rt: &impl Abort, one: &[Pinned], other: &[Pinned]) {
 }
 
 /// The number that a session had put under its key behind so many changes, and 0 where it had put none.
-fn number_behind(pins: &[Pinned], changes: u64) -> u64 {
+fn number_behind(pins: &[Pin], changes: u64) -> u64 {
     let mut number = 0;
     for pin in pins {
         if pin.put <= changes {
@@ -29,12 +29,12 @@ fn number_behind(pins: &[Pinned], changes: u64) -> u64 {
 }
 
 /// The place of a tick that was done behind so many changes or fewer.
-fn is_within(tick: &Beaten, changes: u64) -> bool {
+fn is_within(tick: &Tick, changes: u64) -> bool {
     matches!(&tick.told, Ok(told) if told.place <= changes)
 }
 
 /// The clock behind so many changes.
-fn clock_behind(ticks: &[Beaten], changes: u64) -> u64 {
+fn clock_behind(ticks: &[Tick], changes: u64) -> u64 {
     let mut clock = 0;
     for tick in ticks {
         if is_within(tick, changes) {
@@ -45,7 +45,7 @@ fn clock_behind(ticks: &[Beaten], changes: u64) -> u64 {
 }
 
 /// Each pin has to have a limit above the clock of its point and at most a threshold above it, and its reads have to be those of its point.
-pub fn check_pins(rt: &impl Abort, pins: &[Pinned], others: &[Pinned], ticks: &[Beaten]) {
+pub fn check_pins(rt: &impl Abort, pins: &[Pin], others: &[Pin], ticks: &[Tick]) {
     for pin in pins {
         let clock = clock_behind(ticks, pin.point);
         let above = pin.limit.saturating_sub(clock);
@@ -56,14 +56,14 @@ pub fn check_pins(rt: &impl Abort, pins: &[Pinned], others: &[Pinned], ticks: &[
 }
 
 /// Whether such a pin was made, and behind that one of its session's which is known as let go.
-fn is_held(pins: &[Pinned], known: u64, barring: (u64, u64)) -> bool {
+fn is_held(pins: &[Pin], known: u64, barring: (u64, u64)) -> bool {
     let (number, limit) = barring;
     pins.iter()
         .any(|pin| pin.number == number && pin.limit == limit && known < number)
 }
 
 /// A tick has to have been barred by a pin that was made and isn't known as let go.
-fn is_barred(one: &[Pinned], other: &[Pinned], tick: &Beaten, barring: (u64, u64)) -> bool {
+fn is_barred(one: &[Pin], other: &[Pin], tick: &Tick, barring: (u64, u64)) -> bool {
     let held = is_held(one, tick.one, barring) || is_held(other, tick.other, barring);
     held && barring.1 <= tick.to
 }
@@ -76,7 +76,7 @@ fn is_certified(told: &Ticked, to: u64, number: u64) -> bool {
 }
 
 /// Each tick has to have been done, with the next certificate, or barred.
-pub fn check_ticks(rt: &impl Abort, one: &[Pinned], other: &[Pinned], ticks: &[Beaten]) {
+pub fn check_ticks(rt: &impl Abort, one: &[Pin], other: &[Pin], ticks: &[Tick]) {
     let mut number: u64 = 1;
     for tick in ticks {
         match tick.told {
@@ -89,15 +89,15 @@ pub fn check_ticks(rt: &impl Abort, one: &[Pinned], other: &[Pinned], ticks: &[B
     }
 }
 
-fn has_put_at(pins: &[Pinned], place: u64) -> bool {
+fn has_put_at(pins: &[Pin], place: u64) -> bool {
     pins.iter().any(|pin| pin.put == place)
 }
 
-fn has_tick_at(ticks: &[Beaten], place: u64) -> bool {
+fn has_tick_at(ticks: &[Tick], place: u64) -> bool {
     ticks.iter().any(|tick| matches!(&tick.told, Ok(told) if told.place == place))
 }
 
-fn count_done(ticks: &[Beaten]) -> u64 {
+fn count_done(ticks: &[Tick]) -> u64 {
     let mut done: u64 = 0;
     for tick in ticks {
         if tick.told.is_ok() {
@@ -108,7 +108,7 @@ fn count_done(ticks: &[Beaten]) -> u64 {
 }
 
 /// How many changes there were: each has to be a put of one of the sessions or a tick.
-pub fn check_places(rt: &impl Abort, one: &[Pinned], other: &[Pinned], ticks: &[Beaten]) -> u64 {
+pub fn check_places(rt: &impl Abort, one: &[Pin], other: &[Pin], ticks: &[Tick]) -> u64 {
     let changes = count_done(ticks).saturating_add(100);
     for place in 1..changes.saturating_add(1) {
         let put = has_put_at(one, place) || has_put_at(other, place);

@@ -11,6 +11,7 @@ use lethe_disk::Disk;
 use lethe_engine::Engine;
 use lethe_images::{objects_of, roomy_disk};
 use lethe_memdisk::MemDisk;
+use lethe_snapshot::Snapshot;
 use lethe_store::{Changes, Session, Store};
 use lethe_test_values::SMALL;
 use std::alloc::Global;
@@ -82,6 +83,24 @@ pub fn split<D: Disk, R: Wait + Abort>(
     match store.split(rt, alloc, session, caller) {
         Ok(other) => other,
         Err(_) => panic!(rt; "memory"),
+    }
+}
+
+/// A snapshot of what the store holds now.
+pub fn snapshot_of<D: Disk, R: Wait + Abort>(
+    alloc: Global,
+    rt: &R,
+    store: &Shared<D>,
+    session: &mut Caller<D>,
+) -> Snapshot<D>
+    requires of { session.old.seat.table_id ≡ store.now.turn.table.shared.table_id }
+    requires ready { IsReady all_counted (λ o. store_view o.engine) session.old.seat.me }
+    ensures of { session.new.seat.table_id ≡ session.old.seat.table_id }
+    ensures ready { IsReady all_counted (λ o. store_view o.engine) session.new.seat.me }
+{
+    match store.pin(rt, alloc, session) {
+        Ok(snapshot) => snapshot,
+        Err(_) => panic!(rt; "a pin was refused"),
     }
 }
 

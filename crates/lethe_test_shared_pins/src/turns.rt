@@ -5,7 +5,7 @@ ghost use Rattle.lethe_store.specs.StoreViews.{store_view};
 ghost use Rattle.lethe_store.specs.Since.{all_counted};
 ghost use Rattle.lethe_store.specs.Sessions.{IsReady};
 
-use crate::common::{Caller, Shared};
+use crate::common::{Caller, Shared, snapshot_of};
 use lethe_base::{Key, Refused, Value};
 use lethe_disk::Disk;
 use lethe_engine::Ticked;
@@ -23,7 +23,7 @@ pub const OTHER: &str = "other";
 /// A pin that was made and let go: its number, point and limit, the numbers that its snapshot has under the session's own key and under the other's, 0 where it has none, and the place of the
 /// put behind its release.
 #[derive(Clone, Copy, Drop)]
-pub struct Pinned {
+pub struct Pin {
     pub number: u64,
     pub point: u64,
     pub limit: u64,
@@ -34,7 +34,7 @@ pub struct Pinned {
 
 /// A tick, with the numbers of the last pins that it knew as let go, and what it was told: its place, or the pin that barred it.
 #[derive(Clone, Copy, Drop)]
-pub struct Beaten {
+pub struct Tick {
     pub to: u64,
     pub one: u64,
     pub other: u64,
@@ -103,23 +103,6 @@ fn put_number<D: Disk, R: Wait + Abort>(
     }
 }
 
-fn snapshot_of<D: Disk, R: Wait + Abort>(
-    alloc: Global,
-    rt: &R,
-    store: &Shared<D>,
-    session: &mut Caller<D>,
-) -> Snapshot<D>
-    requires of { session.old.seat.table_id ≡ store.now.turn.table.shared.table_id }
-    requires ready { IsReady all_counted (λ o. store_view o.engine) session.old.seat.me }
-    ensures of { session.new.seat.table_id ≡ session.old.seat.table_id }
-    ensures ready { IsReady all_counted (λ o. store_view o.engine) session.new.seat.me }
-{
-    match store.pin(rt, alloc, session) {
-        Ok(snapshot) => snapshot,
-        Err(_) => panic!(rt; "a pin was refused"),
-    }
-}
-
 /// What is told of a snapshot, before the put behind its release.
 fn told_of<D: Disk>(
     alloc: Global,
@@ -127,8 +110,8 @@ fn told_of<D: Disk>(
     snapshot: &Snapshot<D>,
     port: &mut D::Port,
     keys: (&str, &str),
-) -> Pinned {
-    Pinned {
+) -> Pin {
+    Pin {
         number: snapshot.number(),
         point: snapshot.point(),
         limit: snapshot.limit(),
@@ -145,7 +128,7 @@ fn pin_once<D: Disk, R: Wait + Abort>(
     store: &Shared<D>,
     session: &mut Caller<D>,
     keys: (&str, &str),
-) -> Pinned
+) -> Pin
     requires of { session.old.seat.table_id ≡ store.now.turn.table.shared.table_id }
     requires ready { IsReady all_counted (λ o. store_view o.engine) session.old.seat.me }
     ensures of { session.new.seat.table_id ≡ session.old.seat.table_id }
@@ -165,7 +148,7 @@ pub fn fifty_pins<D: Disk, R: Wait + Abort>(
     store: &Shared<D>,
     mut session: Caller<D>,
     keys: (&str, &str),
-) -> (Caller<D>, Vec<Pinned>)
+) -> (Caller<D>, Vec<Pin>)
     requires of { session.seat.table_id ≡ store.now.turn.table.shared.table_id }
     requires ready { IsReady all_counted (λ o. store_view o.engine) session.seat.me }
     ensures of { result.0.seat.table_id ≡ session.seat.table_id }
@@ -195,7 +178,7 @@ fn tick_once<D: Disk, R: Wait + Abort>(
     store: &Shared<D>,
     session: &mut Caller<D>,
     to: u64,
-) -> Beaten
+) -> Tick
     requires of { session.old.seat.table_id ≡ store.now.turn.table.shared.table_id }
     requires ready { IsReady all_counted (λ o. store_view o.engine) session.old.seat.me }
     requires within { to ≤ max_time }
@@ -205,7 +188,7 @@ fn tick_once<D: Disk, R: Wait + Abort>(
     let one = number_now(alloc, rt, store, session, ONE);
     let other = number_now(alloc, rt, store, session, OTHER);
     let answer = store.tick(rt, alloc, session, to);
-    Beaten {
+    Tick {
         to,
         one,
         other,
@@ -219,7 +202,7 @@ pub fn fifty_ticks<D: Disk, R: Wait + Abort>(
     rt: &R,
     store: &Shared<D>,
     mut session: Caller<D>,
-) -> (Caller<D>, Vec<Beaten>)
+) -> (Caller<D>, Vec<Tick>)
     requires of { session.seat.table_id ≡ store.now.turn.table.shared.table_id }
     requires ready { IsReady all_counted (λ o. store_view o.engine) session.seat.me }
     ensures of { result.0.seat.table_id ≡ session.seat.table_id }
