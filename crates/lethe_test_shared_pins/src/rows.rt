@@ -105,7 +105,7 @@ const SAME_LIMIT: Told = Told::Pin {
 
 const BARRED_BY_SAME_LIMIT: Told = Told::Refused(Refused::Pinned { pin: 2, limit: 100 });
 
-/// The first rows of both sessions have to go so.
+/// The rows of both sessions have to go so.
 fn check_both<D: Disk, R: Wait + Abort>(
     alloc: Global,
     rt: &R,
@@ -120,10 +120,10 @@ fn check_both<D: Disk, R: Wait + Abort>(
     ensures ready { IsReady all_counted (λ o. store_view o.engine) one.new.seat.me × IsReady all_counted (λ o. store_view o.engine) other.new.seat.me }
 {
     let mut held = Held::none();
-    for (who, row) in rows {
-        match who {
-            Who::A => check_row(alloc, rt, store, one, &mut held, *row),
-            Who::B => check_row(alloc, rt, store, other, &mut held, *row),
+    for row in rows {
+        match row.0 {
+            Who::A => check_row(alloc, rt, store, one, &mut held, row.1),
+            Who::B => check_row(alloc, rt, store, other, &mut held, row.1),
         }
     }
     let_go(rt, store, one, held);
