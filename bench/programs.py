@@ -1,4 +1,5 @@
-"""Builds a program that a bench measures with: proved, in a folder of its own, from copies of the crates' sources. Libraries that `rt` built of the same sources on this machine are used."""
+"""Builds a program that a bench measures with: proved, in a folder of its own, from copies of the crates' sources. Libraries that `rt` built of the same sources on this machine are used,
+those in the checkout's out/ too: `rt` takes one only where its stamp is the sum of just these sources."""
 import os
 import shutil
 import subprocess
@@ -27,6 +28,8 @@ def lay(room, row, main, proofs, stdin):
         for part in ("src", "specs", "proofs"):
             if os.path.isdir(f"{TOP}/crates/{crate}/{part}"):
                 shutil.copytree(f"{TOP}/crates/{crate}/{part}", f"{room}/crates/{crate}/{part}")
+        if os.path.exists(f"{TOP}/crates/{crate}/out/rlib/stamp"):
+            shutil.copytree(f"{TOP}/crates/{crate}/out/rlib", f"{room}/crates/{crate}/out/rlib")
     shutil.copy(f"{TOP}/HANDLES", room)
     files = {"crates.txt": "\n".join([*below.values(), row]) + "\n", f"crates/{name}/src/main.rt": main, f"crates/{name}/stdin": stdin}
     files |= {f"crates/{name}/proofs/{path}": text for path, text in proofs.items()}

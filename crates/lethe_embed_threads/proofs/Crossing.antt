@@ -8,7 +8,7 @@ use Rattle.lethe_dirdisk.specs.contracts.disk.DirDisk as DirDisk
 use Rattle.lethe_dirdisk.specs.contracts.disk.DirDiskDisk.TheImpl as disk
 use Rattle.lethe_dirdisk.specs.contracts.page.DirPage as DirPage
 use Rattle.lethe_dirdisk.specs.contracts.page.DirPort as DirPort
-use Rattle.lethe_engine.proofs.Crossing.{refused_send}
+use Rattle.lethe_engine.proofs.Crossing.{refused_send, snapshot_send}
 use Rattle.lethe_store.specs.contracts.changes.Changes as Changes
 use Rattle.lethe_store.specs.contracts.changes.ChangesLog.TheImpl as changes
 use Rattle.lethe_store.specs.contracts.entry.Entry as Entry
@@ -17,6 +17,7 @@ use Rattle.lethe_store.specs.contracts.session.Session as Session
 use Rattle.lethe_store.specs.contracts.store.Store as Store
 use Rattle.lethe_store.proofs.Crossing.{session_send, store_sync}
 use Rattle.lethe_embed_threads.specs.contracts.Office as Office
+use Rattle.lethe_embed_threads.specs.contracts.Report as Report
 
 page_send : IsSend DirPage.the_row
 page_send = search (maps.crosses, crosses, sendable) depth 60
@@ -35,3 +36,7 @@ shared_sync = store_sync DirDisk.the_row Changes.the_row DirPage.the_row DirPort
 
 pub office_send : IsSend Office.the_row
 office_send = declared_send Office.the_type (search sendable depth 20, (caller_send, (search (as_row_send, refused_send, crosses, sendable) depth 60, tt)))
+
+pub report_send : IsSend Report.the_row
+report_send = declared_send Report.the_type
+    (snapshot_send DirDisk.the_row DirPage.the_row DirPort.the_row disk.ghosts page_send page_sync, (caller_send, (search (as_row_send, refused_send, crosses, sendable) depth 60, tt)))

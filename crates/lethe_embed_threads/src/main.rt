@@ -1,4 +1,5 @@
-//! How threads share a store: it opens the folder `offices`, four threads put and get records of their own, each in a session, and it prints how many changes each made.
+//! How threads share a store: it opens the folder `offices`, four threads put and get records of their own, each in a session, and it prints how many changes each made. Then a thread counts the
+//! records of the pinned store while another one puts more.
 #![tactic(auto)]
 
 ghost use Rattle.std.specs.Prelude.{◌≡◌, ◌*◌, ◌<◌, ◌≤◌, IfOk};
@@ -7,13 +8,14 @@ ghost use Rattle.lethe_store.specs.Sessions.{IsReady};
 ghost use Rattle.lethe_store.specs.Since.{all_counted};
 
 use lethe_base::{Config, Fields, Key, NoMemory, Refused, Value};
-use lethe_dirdisk::{DirDisk, DirRefused};
+use lethe_dirdisk::{DirDisk, DirPort, DirRefused};
 use lethe_engine::Engine;
 use lethe_reasons::{
     Message, damaged, folder_refused, no_memory, open_exhausted, open_fault, other_config,
     refused_call,
 };
 use lethe_recover::OpenWhy;
+use lethe_snapshot::Snapshot;
 use lethe_store::{Changes, Session, Store};
 use std::alloc::Global;
 use std::process::ExitCode;
@@ -50,6 +52,7 @@ enum Town {
     East,
     South,
     West,
+    Center,
 }
 
 /// An office, with its session, and how many changes it made or why it ended early.
@@ -58,6 +61,13 @@ struct Office {
     town: Town,
     session: Caller,
     made: Result<u64, Refused>,
+}
+
+/// What the store held at a point, a session through whose port it is read, and how many records were counted in it or why they weren't.
+struct Report {
+    snapshot: Snapshot<DirDisk>,
+    session: Caller,
+    counted: Result<usize, Refused>,
 }
 
 fn main(rt: HostRuntime) -> ExitCode {
@@ -80,7 +90,7 @@ fn main(rt: HostRuntime) -> ExitCode {
 fn shared(rt: &HostRuntime, alloc: Global) -> Result<(Shared, Caller), Fault>
     ensures of { IfOk result (λ r. r.1.seat.table_id ≡ r.0.turn.table.shared.table_id) }
     ensures ready { IfOk result (λ r. IsReady all_counted (λ o. store_view o.engine) r.1.seat.me) }
-    ensures parts { IfOk result (λ r. 16 ≤ r.1.seat.me.0.parts) }
+    ensures parts { IfOk result (λ r. 64 ≤ r.1.seat.me.0.parts) }
 {
     let config = Config::new(Fields::default()).map_err(|_| Fault::Call)?;
     let disk = DirDisk::open(rt, alloc, FOLDER).map_err(|why| Fault::Folder(why))?;
@@ -99,17 +109,20 @@ fn serve<R: Threads + Wait + Print + Sync>(
 ) -> Result<(), Fault>
     requires of { opened.1.seat.table_id ≡ opened.0.turn.table.shared.table_id }
     requires ready { IsReady all_counted (λ o. store_view o.engine) opened.1.seat.me }
-    requires parts { 16 ≤ opened.1.seat.me.0.parts }
+    requires parts { 64 ≤ opened.1.seat.me.0.parts }
 {
     let (store, mut first) = opened;
     let made = four_offices(rt, alloc, &store, &mut first);
+    let counted = report_beside(rt, alloc, &store, &mut first);
     // A shared store can't be dropped: one of its sessions ends it, also where a call was refused.
     let _ = store.finish(rt, first);
     let [north, east, south, west] = made?;
     tell(rt, Town::North, north)?;
     tell(rt, Town::East, east)?;
     tell(rt, Town::South, south)?;
-    tell(rt, Town::West, west)
+    tell(rt, Town::West, west)?;
+    let counted = counted?;
+    println!(rt; "the report counts {counted} records").map_err(|_| Fault::Call)
 }
 
 fn tell<R: Print>(rt: &R, town: Town, changes: u64) -> Result<(), Fault> {
@@ -123,6 +136,7 @@ fn name_of(town: Town) -> &'static str {
         Town::East => "east",
         Town::South => "south",
         Town::West => "west",
+        Town::Center => "center",
     }
 }
 
@@ -138,6 +152,7 @@ fn four_offices<R: Threads + Wait + Sync>(
     requires parts { 16 ≤ first.old.seat.me.0.parts }
     ensures of { first.new.seat.table_id ≡ first.old.seat.table_id }
     ensures ready { IsReady all_counted (λ o. store_view o.engine) first.new.seat.me }
+    ensures parts { first.old.seat.me.0.parts ≤ 16 * first.new.seat.me.0.parts }
 {
     let north = new_office(rt, alloc, store, first, Town::North)?;
     let east = new_office(rt, alloc, store, first, Town::East)?;
@@ -198,6 +213,7 @@ fn close(store: &Shared, first: &mut Caller, office: Office) -> Result<u64, Faul
     requires ready { IsReady all_counted (λ o. store_view o.engine) first.old.seat.me × IsReady all_counted (λ o. store_view o.engine) office.session.seat.me }
     ensures of { first.new.seat.table_id ≡ first.old.seat.table_id }
     ensures ready { IsReady all_counted (λ o. store_view o.engine) first.new.seat.me }
+    ensures parts { first.old.seat.me.0.parts ≤ first.new.seat.me.0.parts }
 {
     let Office {
         town: _,
@@ -284,6 +300,97 @@ fn put_records<R: Wait>(
     Ok(found)
 }
 
+/// Counts the records that the store has now in a thread of its own, while another office puts more.
+fn report_beside<R: Threads + Wait + Sync>(
+    rt: &R,
+    alloc: Global,
+    store: &Shared,
+    first: &mut Caller,
+) -> Result<usize, Fault>
+    requires of { first.old.seat.table_id ≡ store.now.turn.table.shared.table_id }
+    requires ready { IsReady all_counted (λ o. store_view o.engine) first.old.seat.me }
+    requires parts { 4 ≤ first.old.seat.me.0.parts }
+    ensures of { first.new.seat.table_id ≡ first.old.seat.table_id }
+    ensures ready { IsReady all_counted (λ o. store_view o.engine) first.new.seat.me }
+{
+    let center = new_office(rt, alloc, store, first, Town::Center)?;
+    let report = new_report(rt, alloc, store, first)?;
+    let (report, center) = join(
+        rt,
+        move || -> Report
+            requires { IsReady all_counted (λ o. store_view o.engine) report.session.seat.me }
+            ensures { (result.session.seat.table_id ≡ report.session.seat.table_id) × IsReady all_counted (λ o. store_view o.engine) result.session.seat.me }
+        { count_records(alloc, report) },
+        move || -> Office
+            requires { (center.session.seat.table_id ≡ store.now.turn.table.shared.table_id) × IsReady all_counted (λ o. store_view o.engine) center.session.seat.me }
+            ensures { (result.session.seat.table_id ≡ center.session.seat.table_id) × IsReady all_counted (λ o. store_view o.engine) result.session.seat.me }
+        { work(rt, alloc, store, center) },
+    );
+    let Report {
+        snapshot,
+        session,
+        counted,
+    } = report;
+    // Nor can a snapshot be dropped: any session releases it.
+    store.release(rt, first, snapshot);
+    store.join(first, session);
+    close(store, first, center)?;
+    counted.map_err(|_| Fault::Call)
+}
+
+/// A report on what the store holds now, with a session that is split from the first one.
+fn new_report<R: Wait>(
+    rt: &R,
+    alloc: Global,
+    store: &Shared,
+    first: &mut Caller,
+) -> Result<Report, Fault>
+    requires of { first.old.seat.table_id ≡ store.now.turn.table.shared.table_id }
+    requires ready { IsReady all_counted (λ o. store_view o.engine) first.old.seat.me }
+    requires parts { 1 < first.old.seat.me.0.parts }
+    ensures of { first.new.seat.table_id ≡ first.old.seat.table_id }
+    ensures ready { IsReady all_counted (λ o. store_view o.engine) first.new.seat.me }
+    ensures report_of { IfOk result (λ report. report.session.seat.table_id ≡ first.old.seat.table_id) }
+    ensures report_ready { IfOk result (λ report. IsReady all_counted (λ o. store_view o.engine) report.session.seat.me) }
+{
+    let session = store.split(rt, alloc, first, 2).map_err(|_| Fault::Call)?;
+    let snapshot = store.pin(rt, alloc, first).map_err(|_| Fault::Call)?;
+    Ok(Report {
+        snapshot,
+        session,
+        counted: Ok(0),
+    })
+}
+
+/// What the thread of the report does. It takes no turn, so it holds up nobody and waits for nobody.
+fn count_records(alloc: Global, report: Report) -> Report
+    requires { IsReady all_counted (λ o. store_view o.engine) report.session.seat.me }
+    ensures of { result.session.seat.table_id ≡ report.session.seat.table_id }
+    ensures ready { IsReady all_counted (λ o. store_view o.engine) result.session.seat.me }
+{
+    let Report {
+        snapshot,
+        mut session,
+        counted: _,
+    } = report;
+    let counted = count_pinned(alloc, &snapshot, session.port());
+    Report {
+        snapshot,
+        session,
+        counted,
+    }
+}
+
+fn count_pinned(
+    alloc: Global,
+    snapshot: &Snapshot<DirDisk>,
+    port: &mut DirPort,
+) -> Result<usize, Refused> {
+    let (first, end) = (text_key(alloc, "a")?, text_key(alloc, "z")?);
+    let records = snapshot.scan(alloc, port, &first, &end)?;
+    Ok(records.len())
+}
+
 /// What is said of a fault.
 fn told(alloc: Global, fault: &Fault) -> Result<Message, NoMemory> {
     match fault {
@@ -303,6 +410,11 @@ fn key_at(alloc: Global, town: Town, number: u64) -> Result<Key, Refused> {
     let name = name_of(town);
     let text = format!(in alloc; "{name} {number}").map_err(|_| Refused::NoMemory)?;
     Key::new(text.into_bytes()).map_err(|_| Refused::NoMemory)
+}
+
+fn text_key(alloc: Global, text: &str) -> Result<Key, Refused> {
+    let bytes = Vec::from_slice(alloc, text.as_bytes()).map_err(|_| Refused::NoMemory)?;
+    Key::new(bytes).map_err(|_| Refused::NoMemory)
 }
 
 fn value_of(alloc: Global, text: &str) -> Result<Value, Refused> {
