@@ -1,5 +1,5 @@
 -- Which two lines answer a put and what comes behind it, over a new store.
-use Rattle.std.proofs.Common.{◌≡◌, ◌∙◌, ℕ, take, false, List, [], ◌∷◌, Option, Some, None, refl, ap, subst, arith, length}
+use Rattle.std.proofs.Common.{◌≡◌, ◌∙◌, ℕ, take, false, List, [], ◌∷◌, Option, Some, None, ap, subst, arith, length}
 use Rattle.std.specs.Prelude.{codes, Contains, IfSome}
 use Rattle.lethe_base.specs.History.{History, after, change_at}
 use Rattle.lethe_base.specs.Read as answers
