@@ -1,5 +1,5 @@
 -- What linking and unlinking change, and how a shape changes with them.
-use Rattle.std.specs.Prelude.{◌≡◌, ◌≢◌, ℕ, ◌+◌, ◌==◌, Bool, not, List, [], ◌∷◌, ◌++◌, length, filter, if◌then◌else◌, Option, Some, None, slice_get, unwrap_or}
+use Rattle.std.specs.Prelude.{◌≡◌, ◌≢◌, ℕ, ◌+◌, ◌≤◌, ◌==◌, Bool, not, List, [], ◌∷◌, ◌++◌, length, filter, if◌then◌else◌, Option, Some, None, slice_get, unwrap_or}
 use Rattle.lethe_base.specs.declared.shape.FileFacts.{FileFacts}
 use Rattle.lethe_due.specs.Due.{Due, AreInOrder, IsWith, is_linked, without}
 
@@ -37,6 +37,16 @@ pub record IsWithFile (file : FileFacts) (old new : List FileFacts) : Type 0 whe
 abbrev pub IsWithoutFile : ℕ → List FileFacts → List FileFacts → Type 0
 IsWithoutFile number old new = new ≡ filter (λ file. not (file.no == number)) old
 
+
+-- each due list can link so many more files
+abbrev pub HaveRoom : ℕ → List Due → Type 0
+HaveRoom more orders = (level : ℕ) (due : Due) → slice_get orders level ≡ Some due → more ≤ due.spare
+
+-- each due list has the files that it had, and no less room
+pub record KeepFiles (old new : List Due) : Type 0 where
+  pub count : length new ≡ length old
+  pub files : (level : ℕ) (before after : Due) → slice_get old level ≡ Some before → slice_get new level ≡ Some after → after.files ≡ before.files
+  pub spare : (level : ℕ) (before after : Due) → slice_get old level ≡ Some before → slice_get new level ≡ Some after → before.spare ≤ after.spare
 
 -- the due list of a level; an empty one where it has none
 abbrev pub due_at : ℕ → List Due → Due

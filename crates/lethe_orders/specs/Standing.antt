@@ -20,15 +20,14 @@ pub record IsOrderOf (files : List FileFacts) (due : Due) : Type 0 where
   pub same : (file : DueFile) → Contains due.files file ↔ Contains (timed files) file
   pub order : AreInOrder due.files
 
--- a due list for each of the first so many levels, of its files
-pub record AreOrdersOf (count : ℕ) (levels : List (List FileFacts)) (orders : List Due) : Type 0 where
-  pub count : length orders ≡ count
-  pub lists : (level : ℕ) (files : List FileFacts) (due : Due) → slice_get levels level ≡ Some files → slice_get orders level ≡ Some due → IsOrderOf files due
+-- each due list is of the files of its level
+abbrev pub AreOrdersOf : List (List FileFacts) → List Due → Type 0
+AreOrdersOf levels orders = (level : ℕ) (files : List FileFacts) (due : Due) → slice_get levels level ≡ Some files → slice_get orders level ≡ Some due → IsOrderOf files due
 
 -- a due list for each level above the last, of its files
 pub record StandFor (shape : Shape) (orders : List Due) : Type 0 where
-  pub levels : length shape.levels ≡ length orders + 1
-  pub orders : AreOrdersOf (length orders) shape.levels orders
+  pub count : length shape.levels ≡ length orders + 1
+  pub lists : AreOrdersOf shape.levels orders
 
 -- no two files have one number
 abbrev pub HaveOtherNumbers : List FileFacts → Type 0

@@ -7,6 +7,7 @@ ghost use Rattle.lethe_orders.specs.Standing.{StandFor};
 
 use crate::Orders;
 use crate::age::{Age, older};
+use crate::levels::is_level_due;
 use lethe_base::{Config, FileFacts, Shape};
 use lethe_due::DueList;
 use lethe_fade::{cum, is_passed};
@@ -31,9 +32,8 @@ pub fn first_expired<L: Ledger>(
     let levels = shape.levels.items();
     let lists = orders.lists();
     for level in 0..config.fields().levels {
-        let place = level as usize;
-        if is_front_expired(&lists[place], config, level, to, steps) {
-            return oldest_file(levels[place].items(), config, level, to, steps);
+        if is_level_due(lists, config, level, to, steps) {
+            return oldest_file(levels[level as usize].items(), config, level, to, steps);
         }
     }
     None

@@ -1,9 +1,8 @@
 //! The due lists of some levels.
 ghost use Rattle.std.specs.Prelude.{◌≡◌, ◌≤◌, ◌<◌, ◌+◌, ◌&&◌, length, map, All, IfOk, OnOk, slice_get, ℕ, Some, false};
-ghost use Rattle.std.specs.List.{AllZip};
 ghost use Rattle.lethe_due.specs.Due.{Due};
 ghost use Rattle.lethe_orders.specs.Standing.{AreOrdersOf, HaveOtherNumbers};
-ghost use Rattle.lethe_orders.specs.Changes.{ChangesAt, IsLinked, IsUnlinked, are_linked_at, count_at, due_at};
+ghost use Rattle.lethe_orders.specs.Changes.{ChangesAt, HaveRoom, IsLinked, IsUnlinked, KeepFiles, are_linked_at, count_at, due_at};
 ghost use Rattle.lethe_orders.specs.Firsts.{is_front_expired};
 
 use crate::building::list_of;
@@ -26,7 +25,8 @@ pub fn lists_of<L: Ledger>(
     requires shared { 0 < blank.parts }
     requires within { count ≤ length levels.now }
     requires apart { All HaveOtherNumbers levels.now }
-    ensures { IfOk result (λ lists. AreOrdersOf count levels.now lists.items) }
+    ensures count { IfOk result (λ lists. length lists.items ≡ count) }
+    ensures orders { IfOk result (λ lists. AreOrdersOf levels.now lists.items) }
 {
     let mut steps = Steps::<L>::begin(blank);
     let mut lists = Vec::new(alloc);
@@ -39,9 +39,8 @@ pub fn lists_of<L: Ledger>(
 
 /// Takes memory for so many more files in each list.
 pub fn reserve_each(lists: &mut Vec<DueList>, files: usize) -> Result<(), NoMemory>
-    ensures room { OnOk result (All (λ due. files ≤ due.spare) lists.new.items) }
-    ensures files { map (λ due. due.files) lists.new.items ≡ map (λ due. due.files) lists.old.items }
-    ensures kept { AllZip (λ old new. old.spare ≤ new.spare) lists.old.items lists.new.items }
+    ensures room { OnOk result (HaveRoom files lists.new.items) }
+    ensures kept { KeepFiles lists.old.items lists.new.items }
 {
     for place in 0..lists.len() {
         let list = &mut lists[place];

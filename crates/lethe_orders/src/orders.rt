@@ -1,11 +1,10 @@
 //! The orders of a store's levels.
 ghost use Rattle.std.specs.Prelude.{◌≡◌, ◌≤◌, ◌<◌, ◌+◌, ℕ, false, length, map, All, IfOk, OnOk, Some, Option, slice_get};
-ghost use Rattle.std.specs.List.{AllZip};
 ghost use Rattle.std.specs.Option.{is_some};
 ghost use Rattle.lethe_base.specs.declared.shape.Shape as shapes;
 ghost use Rattle.lethe_due.specs.Due.{Due, is_linked};
 ghost use Rattle.lethe_orders.specs.Standing.{HaveOtherNumbers, StandFor};
-ghost use Rattle.lethe_orders.specs.Changes.{ChangesAt, IsFileLinked, IsUnlinked, IsWithFile, IsWithoutFile, are_linked_at, count_at};
+ghost use Rattle.lethe_orders.specs.Changes.{ChangesAt, HaveRoom, IsFileLinked, IsUnlinked, IsWithFile, IsWithoutFile, KeepFiles, are_linked_at, count_at};
 ghost use Rattle.lethe_orders.specs.Firsts.{first_expired};
 
 use crate::levels::{is_level_due, link_at, lists_of, reserve_each, unlink_at};
@@ -49,9 +48,9 @@ impl Orders {
 
     /// Takes memory for so many more files in each level. The lists stay, whatever it answers.
     pub fn reserve(&mut self, files: usize) -> Result<(), NoMemory>
-        ensures room { OnOk result (All (λ due. files ≤ due.spare) self.new) }
-        ensures files { map (λ due. due.files) self.new ≡ map (λ due. due.files) self.old }
-        ensures kept { AllZip (λ old new. old.spare ≤ new.spare) self.old self.new }
+        ensures room { OnOk result (HaveRoom files self.new) }
+        ensures kept { KeepFiles self.old self.new }
+        ensures stand { (shape : shapes.Shape) → StandFor shape self.old → StandFor shape self.new }
     {
         reserve_each(&mut self.lists, files)
     }
@@ -84,8 +83,9 @@ impl Orders {
         ensures due { (shape : shapes.Shape) → length shape.levels ≡ config.now.levels + 1 → StandFor shape self.now → result ≡ is_some (first_expired config.now to shape) }
         ensures few { steps.new ≤ steps.old + config.now.levels }
     {
+        let lists = self.lists();
         for level in 0..config.fields().levels {
-            if is_level_due(&self.lists, config, level, to, steps) {
+            if is_level_due(lists, config, level, to, steps) {
                 return true;
             }
         }
