@@ -2,7 +2,8 @@
 use Rattle.std.proofs.Common.{◌≡◌, ◌≢◌, ℕ, ◌+◌, ◌<◌, ◌≤◌, ◌↔◌, Bool, true, false, List, [], ◌∷◌, ◌++◌, length, take, get_or, All, AllPairs, Contains, IsPermutation, Option, Some, None, refl, sym, ap, ◌∙◌, subst, append-nil, arith, eqb}
 use Rattle.std.specs.Prelude.{◌==◌, slice_get}
 use Rattle.std.specs.List.{filter_map, list_any, IsDistinct}
-use Rattle.std.specs.Option.{cons_option, option_map}
+use Rattle.std.specs.List.{cons_option}
+use Rattle.std.specs.Option.{option_map}
 use Rattle.std.proofs.lemmas.Bool.{eqb-false, eqb-true}
 use Rattle.std.proofs.lemmas.Bool.Decides.{nat_tests}
 use Rattle.std.proofs.lemmas.List.{get_or-take, length-take, take_all, take_more}
@@ -10,10 +11,11 @@ use Rattle.std.proofs.lemmas.List.Elements.{All-cons, All-contains, All-contains
 use Rattle.std.proofs.lemmas.List.Folds.{list_any_none}
 use Rattle.std.proofs.lemmas.List.Kept.{AllPairs-cons}
 use Rattle.std.proofs.lemmas.List.Sorted.{Contains-permutation, IsPermutation-sym}
+use Rattle.std.proofs.lemmas.Option.{same_Some, slice_get-get_or}
 use Rattle.std.proofs.lemmas.Map.Keys.{apart_from_distinct, IsDistinct-from_apart, IsDistinct-IsPermutation}
 use Rattle.lethe_base.specs.Shapes.{HasOtherNumber}
 use Rattle.lethe_base.specs.declared.shape.FileFacts.{FileFacts}
-use Rattle.lethe_due.specs.Due.{AreInOrder, IsWith, is_linked}
+use Rattle.lethe_due.specs.Due.{AreInOrder, ComesBefore, IsWith, is_linked}
 use Rattle.lethe_due.specs.declared.due_file.DueFile.{DueFile}
 use Rattle.lethe_due.proofs.Ordered.{pairs_head, pairs_nil, pairs_tail}
 use Rattle.lethe_orders.specs.Standing.{HaveOtherNumbers, timed, timed_file}
@@ -21,6 +23,11 @@ use Rattle.lethe_orders.proofs.Items.{middle_follows}
 
 abbrev pub HasOther : DueFile → DueFile → Type 0
 HasOther file other = file.no ≢ other.no
+
+-- what is read at a place, whatever stands for no item
+pub same_read : {X : Type 0} (xs : List X) (place : ℕ) (d : X) → place < length xs → get_or xs place d ≡ get_or xs place (get_or xs place d)
+same_read xs place d within =
+    same_Some (get_or xs place d) (get_or xs place (get_or xs place d)) (sym (slice_get-get_or xs place d within) ∙ slice_get-get_or xs place (get_or xs place d) within)
 
 -- the files that have an oldest time
 
@@ -76,6 +83,15 @@ apart_in_order files order apart same =
     let first : IsDistinct same_number (timed files) = IsDistinct-from_apart same_number (timed files) (λ i j d lt below. differ _ _ (timed_apart files apart i j d lt below)) in
     let moved : IsDistinct same_number order = IsDistinct-IsPermutation same_number flips (timed files) order same first in
     λ i j d lt below. eqb-false _ _ (apart_from_distinct same_number order i j d moved lt below)
+
+-- no link yet
+
+pub none_in_order : (files : List DueFile) → files ≡ [] → AreInOrder files
+none_in_order files none =
+    subst AreInOrder (sym none) (record { once = pairs_nil (λ (f : DueFile) (g : DueFile). f.no ≢ g.no); ordered = pairs_nil ComesBefore })
+
+pub none_linked : (order files : List DueFile) → files ≡ [] → (x : DueFile) → Contains files x ↔ Contains (take 0 order) x
+none_linked order files none x = subst (λ (l : List DueFile). Contains l x ↔ Contains (take 0 order) x) (sym none) (λ h. h, λ h. h)
 
 -- a link more
 
