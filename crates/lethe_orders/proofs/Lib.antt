@@ -4,3 +4,4 @@ pub mod Fronts
 pub mod Firsts
 pub mod Linking
 pub mod Lists
+pub mod Rooms

@@ -6,20 +6,20 @@ use Rattle.std.specs.List.{cons_option}
 use Rattle.std.specs.Option.{option_map}
 use Rattle.std.proofs.lemmas.Bool.{eqb-false, eqb-true}
 use Rattle.std.proofs.lemmas.List.Elements.{filter_map-append}
-use Rattle.std.proofs.lemmas.Option.{slice_get-get_or, slice_get_within}
+use Rattle.std.proofs.lemmas.Option.{same_Some, slice_get-get_or, slice_get_within}
 use Rattle.lethe_base.specs.declared.shape.FileFacts.{FileFacts}
 use Rattle.lethe_base.specs.declared.shape.Shape.{Shape}
 use Rattle.lethe_due.specs.Due.{Due, AreInOrder, without}
 use Rattle.lethe_due.specs.declared.due_file.DueFile.{DueFile}
 use Rattle.lethe_due.proofs.Without.{others_in_order}
-use Rattle.lethe_orders.specs.Changes.{ChangesAt, IsFileLinked, IsLinked, IsUnlinked, IsWithFile, IsWithoutFile, KeepFiles}
+use Rattle.lethe_orders.specs.Changes.{ChangesAt, IsFileLinked, IsLinked, IsTimeLinked, IsUnlinked, IsWithFile, IsWithoutFile, KeepFiles}
 use Rattle.lethe_orders.specs.Standing.{IsOrderOf, StandFor, timed, timed_file}
 use Rattle.lethe_orders.proofs.Items.{filter_follows, middle_follows}
 
 -- a level with one file more
 
 module _ (file : FileFacts) (front back : List FileFacts) (due new : Due) where
-  linked_by : (o : Option ℕ) → elim o [ None ↦ new ≡ due | Some time ↦ IsLinked file.no time due new ] → ((x : DueFile) → Contains due.files x ↔ Contains (timed front ++ timed back) x) → AreInOrder due.files
+  linked_by : (o : Option ℕ) → IsTimeLinked file.no o due new → ((x : DueFile) → Contains due.files x ↔ Contains (timed front ++ timed back) x) → AreInOrder due.files
       → ((x : DueFile) → Contains new.files x ↔ Contains (timed front ++ cons_option (option_map (λ (time : ℕ). let made : DueFile = record { no = file.no; oldest = time } in made) o) (timed back)) x) × AreInOrder new.files
   linked_by None is same order =
       (subst (λ (d : Due). (x : DueFile) → Contains d.files x ↔ Contains (timed front ++ timed back) x) (sym is) same, subst (λ (d : Due). AreInOrder d.files) (sym is) order)
@@ -105,6 +105,14 @@ module _ (place : ℕ) (shape after : Shape) (old new : List Due) (Put : List Fi
     count = shapes.count ∙ stand.count ∙ ap (λ n. n + 1) (sym orders.count);
     lists = λ level files due is made. level_stands level (eqb level place) refl files due is made;
   }
+
+-- a change that is none
+pub none_changes : {X : Type 0} (place : ℕ) (Change : X → X → Type 0) (xs : List X) → ((x : X) → Change x x) → ChangesAt place Change xs xs
+none_changes place Change xs same = record {
+  count = refl;
+  others = λ other differs. refl;
+  there = λ before after is made. subst (Change before) (same_Some before after (sym is ∙ made)) (same before);
+}
 
 -- room that is taken changes no list
 pub kept_stand : (shape : Shape) (old new : List Due) → KeepFiles old new → StandFor shape old → StandFor shape new

@@ -16,8 +16,12 @@ pub record IsLinked (number time : ℕ) (old new : Due) : Type 0 where
   pub spare : new.spare + 1 ≡ old.spare
 
 -- a file without an oldest time isn't linked
+abbrev pub IsTimeLinked : ℕ → Option ℕ → Due → Due → Type 0
+IsTimeLinked number None old new = new ≡ old
+IsTimeLinked number (Some time) old new = IsLinked number time old new
+
 abbrev pub IsFileLinked : FileFacts → Due → Due → Type 0
-IsFileLinked file old new = elim file.oldest [ None ↦ new ≡ old | Some time ↦ IsLinked file.no time old new ]
+IsFileLinked file old new = IsTimeLinked file.no file.oldest old new
 
 -- a due list without the file of that number, whose node it can link again
 abbrev pub unlinked : ℕ → Due → Due
