@@ -1,6 +1,6 @@
 -- The first expired file, level by level.
 use Rattle.std.proofs.Common.{◌≡◌, ℕ, ◌+◌, ◌<◌, Bool, true, false, cond, List, [], ◌∷◌, ◌++◌, length, drop, get_or, map, Option, Some, None, refl, sym, ap, ◌∙◌, subst, arith}
-use Rattle.std.specs.Prelude.{◌&&◌, nat_lt, slice_get}
+use Rattle.std.specs.Prelude.{◌&&◌, ◌||◌, IfNone, nat_lt, slice_get}
 use Rattle.std.specs.List.{filter, list_any}
 use Rattle.std.specs.Option.{is_some, option_map}
 use Rattle.std.specs.Ordering.{is_gt}
@@ -8,12 +8,18 @@ use Rattle.std.specs.declared.cmp.Ordering.{Ordering}
 use Rattle.std.proofs.lemmas.Bool.{lt-ltb, true≢false}
 use Rattle.std.proofs.lemmas.Bool.Decides.{nat_tests}
 use Rattle.std.proofs.lemmas.List.{drop_all, drop_more}
+use Rattle.std.proofs.lemmas.Option.{same_Some, slice_get-get_or}
 use Rattle.lethe_base.specs.declared.config.Fields.{Fields}
 use Rattle.lethe_base.specs.declared.shape.FileFacts.{FileFacts}
 use Rattle.lethe_fade.specs.Candidates.{Candidate, first_files, merge_named}
 use Rattle.lethe_fade.specs.Expired.{expired_cmp, expired_from, expired_merges, is_expired, sources_keys}
 use Rattle.lethe_fade.specs.Ranks.{sorted_by, with_item}
-use Rattle.lethe_orders.specs.Firsts.{lowest_expired}
+use Rattle.lethe_base.specs.declared.shape.Shape.{Shape}
+use Rattle.lethe_due.specs.Due.{Due}
+use Rattle.lethe_orders.specs.Changes.{due_at}
+use Rattle.lethe_orders.specs.Firsts.{is_front_expired, lowest_expired}
+use Rattle.lethe_orders.specs.Standing.{StandFor}
+use Rattle.lethe_orders.proofs.Fronts.{level_tells}
 
 -- whether a list has a first item
 
@@ -21,7 +27,7 @@ kept_some : {X : Type 0} (p : X → Bool) (xs : List X) → is_some (slice_get (
 kept_some p [] = refl
 kept_some {X} p (x ∷ xs) = by (p x) (kept_some p xs)
   where
-    by : (b : Bool) → is_some (slice_get (filter p xs) 0) ≡ list_any p xs → is_some (slice_get (cond b (x ∷ filter p xs) (filter p xs)) 0) ≡ cond b true (list_any p xs)
+    by : (b : Bool) → is_some (slice_get (filter p xs) 0) ≡ list_any p xs → is_some (slice_get (cond b (x ∷ filter p xs) (filter p xs)) 0) ≡ (b || list_any p xs)
     by true rest = refl
     by false rest = rest
 
@@ -40,6 +46,15 @@ sorted_some cmp (x ∷ xs) = put_some cmp x (sorted_by cmp xs)
 mapped_some : {X Y : Type 0} (f : X → Y) (xs : List X) → is_some (slice_get (map f xs) 0) ≡ is_some (slice_get xs 0)
 mapped_some f [] = refl
 mapped_some f (x ∷ xs) = refl
+
+read_some : {X Y : Type 0} (f : X → Y) (o : Option X) → is_some (option_map f o) ≡ is_some o
+read_some f None = refl
+read_some f (Some x) = refl
+
+-- what holds where there is none holds where there is one
+pub never_none : (o : Option ℕ) (P : Type 0) → is_some o ≡ true → IfNone o P
+never_none None P some = absurd (true≢false (sym some))
+never_none (Some x) P some = tt
 
 none_first : {X : Type 0} (xs : List X) → is_some (slice_get xs 0) ≡ false → xs ≡ []
 none_first [] none = refl
@@ -72,6 +87,13 @@ module _ (fields : Fields) (clock : ℕ) where
   own_first level files next =
       first_mapped (λ (c : Candidate). c.plan.file) (λ (file : FileFacts). merge_named file.no level (sources_keys level files file) next) (sorted_by expired_cmp (filter (is_expired fields clock level) files))
 
+  level_some : (level : ℕ) (files : List FileFacts) → list_any (is_expired fields clock level) files ≡ true → is_some (file_in_level fields clock level files) ≡ true
+  level_some level files any =
+      read_some (λ (file : FileFacts). file.no) (slice_get (sorted_by expired_cmp (filter (is_expired fields clock level) files)) 0)
+      ∙ sorted_some expired_cmp (filter (is_expired fields clock level) files)
+      ∙ kept_some (is_expired fields clock level) files
+      ∙ any
+
   timed_here : (level : ℕ) (files next : List FileFacts) → level < fields.levels → cond (nat_lt level fields.levels) (expired_merges fields clock level files next) [] ≡ expired_merges fields clock level files next
   timed_here level files next here = ap (λ b. cond b (expired_merges fields clock level files next) []) (lt-ltb level fields.levels here)
 
@@ -80,6 +102,7 @@ module _ (fields : Fields) (clock : ℕ) where
     pub first : any ≡ true → file_of_first (expired_from fields clock level (drop level levels)) ≡ file_in_level fields clock level (get_or levels level [])
     pub lowest : any ≡ true → lowest_expired fields clock level (drop level levels) ≡ get_or levels level []
     pub later : any ≡ false → expired_from fields clock level (drop level levels) ≡ expired_from fields clock (level + 1) (drop (level + 1) levels)
+    pub some : any ≡ true → is_some (file_in_level fields clock level (get_or levels level [])) ≡ true
     pub lower : any ≡ false → lowest_expired fields clock level (drop level levels) ≡ lowest_expired fields clock (level + 1) (drop (level + 1) levels)
 
   module _ (level : ℕ) (files : List FileFacts) (deeper : List (List FileFacts)) (here : level < fields.levels) where
@@ -110,8 +133,16 @@ module _ (fields : Fields) (clock : ℕ) where
         first = λ e. ap (λ l. file_of_first (expired_from fields clock level l)) rest ∙ first_here level files deeper here (sym is ∙ e);
         lowest = λ e. ap (lowest_expired fields clock level) rest ∙ lowest_here level files deeper here true (sym is ∙ e);
         later = λ e. ap (expired_from fields clock level) rest ∙ later_here level files deeper here (sym is ∙ e);
+        some = λ e. level_some level files (sym is ∙ e);
         lower = λ e. ap (lowest_expired fields clock level) rest ∙ lowest_here level files deeper here false (sym is ∙ e);
       }
+
+  -- a level, as its due list tells it
+  pub level_told : (shape : Shape) (orders lists : List Due) (level : ℕ) (any : Bool) → StandFor shape orders → length shape.levels ≡ fields.levels + 1 → lists ≡ orders → level < fields.levels
+      → any ≡ is_front_expired fields clock level (due_at level lists) → LevelStep shape.levels level any
+  level_told shape orders lists level any stand levels same here is =
+      level_step shape.levels level any here (omega (arith, levels, here))
+      (is ∙ ap (λ (l : List Due). is_front_expired fields clock level (due_at level l)) same ∙ level_tells fields clock level shape orders stand (omega (arith, levels, here)))
 
   -- the last level has no time
   pub last_none : (levels : List (List FileFacts)) → length levels ≡ fields.levels + 1 → expired_from fields clock fields.levels (drop fields.levels levels) ≡ []
@@ -121,3 +152,9 @@ module _ (fields : Fields) (clock : ℕ) where
       in
       let untimed : nat_lt fields.levels fields.levels ≡ false = grind (arith, nat_tests) in
       ap (expired_from fields clock fields.levels) rest ∙ ap (λ b. cond b (expired_merges fields clock fields.levels (get_or levels fields.levels []) []) [] ++ []) untimed
+
+-- the files of a level, as they are read
+pub read_files : (levels read : List (List FileFacts)) (level : ℕ) (files item : List FileFacts) → level < length levels → files ≡ item → item ≡ get_or read level item → read ≡ levels → files ≡ get_or levels level []
+read_files levels read level files item within is there same =
+    is ∙ there ∙ ap (λ l. get_or l level item) same
+    ∙ same_Some (get_or levels level item) (get_or levels level []) (sym (slice_get-get_or levels level item within) ∙ slice_get-get_or levels level [] within)
