@@ -1,7 +1,7 @@
 -- What the front of a level's due list tells of the level's files.
-use Rattle.std.proofs.Common.{◌≡◌, ℕ, ◌+◌, ◌≤◌, Bool, true, false, List, [], ◌∷◌, length, get_or, ◌<◌, AllPairs, Option, Some, None, refl, sym, ap, ◌∙◌, subst, arith}
-use Rattle.std.specs.Prelude.{◌||◌, nat_le, slice_get, unwrap_or}
-use Rattle.std.specs.List.{filter_map, list_any}
+use Rattle.std.proofs.Common.{◌≡◌, ℕ, ◌+◌, ◌≤◌, Bool, true, false, List, [], ◌∷◌, length, get_or, ◌<◌, AllPairs, Option, Some, None, refl, sym, ap, ◌∙◌, arith}
+use Rattle.std.specs.Prelude.{◌||◌, nat_le, unwrap_or}
+use Rattle.std.specs.List.{list_any}
 use Rattle.std.specs.List.{cons_option}
 use Rattle.std.specs.Option.{option_map}
 use Rattle.std.proofs.lemmas.Bool.Decides.{nat_tests}
@@ -18,7 +18,7 @@ use Rattle.lethe_fade.specs.Expired.{is_expired, is_passed}
 use Rattle.lethe_fade.specs.LevelTimes.{level_deadline}
 use Rattle.lethe_orders.specs.Changes.{due_at}
 use Rattle.lethe_orders.specs.Firsts.{is_front_expired}
-use Rattle.lethe_orders.specs.Standing.{IsOrderOf, StandFor, timed, timed_file}
+use Rattle.lethe_orders.specs.Standing.{IsOrderOf, StandFor, timed}
 use Rattle.lethe_orders.proofs.Items.{same_any}
 
 still_early : (time later part clock : ℕ) → time ≤ later → nat_le (time + part) clock ≡ false → nat_le (later + part) clock ≡ false

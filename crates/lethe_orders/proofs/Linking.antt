@@ -1,7 +1,7 @@
 -- Orders that stand for a shape stand for it with a file more, or less, once that file is linked, or unlinked.
-use Rattle.std.proofs.Common.{◌≡◌, ◌≢◌, ℕ, ◌+◌, ◌<◌, ◌↔◌, Bool, true, false, not, cond, List, [], ◌∷◌, ◌++◌, length, get_or, Contains, Option, Some, None, refl, sym, ap, ◌∙◌, subst, arith, eqb}
+use Rattle.std.proofs.Common.{◌≡◌, ℕ, ◌+◌, ◌↔◌, Bool, true, false, not, cond, List, [], ◌∷◌, ◌++◌, length, get_or, Contains, Option, Some, None, refl, sym, ap, ◌∙◌, subst, arith, eqb}
 use Rattle.std.specs.Prelude.{◌==◌, slice_get}
-use Rattle.std.specs.List.{filter, filter_map}
+use Rattle.std.specs.List.{filter}
 use Rattle.std.specs.List.{cons_option}
 use Rattle.std.specs.Option.{option_map}
 use Rattle.std.proofs.lemmas.Bool.{eqb-false, eqb-true}
@@ -12,7 +12,7 @@ use Rattle.lethe_base.specs.declared.shape.Shape.{Shape}
 use Rattle.lethe_due.specs.Due.{Due, AreInOrder, without}
 use Rattle.lethe_due.specs.declared.due_file.DueFile.{DueFile}
 use Rattle.lethe_due.proofs.Without.{others_in_order}
-use Rattle.lethe_orders.specs.Changes.{ChangesAt, IsFileLinked, IsLinked, IsTimeLinked, IsUnlinked, IsWithFile, IsWithoutFile, KeepFiles}
+use Rattle.lethe_orders.specs.Changes.{ChangesAt, IsFileLinked, IsTimeLinked, IsUnlinked, IsWithFile, IsWithoutFile, KeepFiles}
 use Rattle.lethe_orders.specs.Standing.{IsOrderOf, StandFor, timed, timed_file}
 use Rattle.lethe_orders.proofs.Items.{filter_follows, middle_follows}
 
@@ -27,9 +27,11 @@ module _ (file : FileFacts) (front back : List FileFacts) (due new : Due) where
       let made : DueFile = record { no = file.no; oldest = time } in
       let old = is.with.front in
       let behind = is.with.back in
-      let before = subst (λ (l : List DueFile). (x : DueFile) → Contains l x ↔ Contains (timed front ++ timed back) x) is.with.was same in
-      (subst (λ (l : List DueFile). (x : DueFile) → Contains l x ↔ Contains (timed front ++ made ∷ timed back) x) (sym is.with.is)
-      (λ x. (middle_follows made old behind (timed front) (timed back) (λ y. (before y).0) x, middle_follows made (timed front) (timed back) old behind (λ y. (before y).1) x)), is.order)
+      let before = subst (λ (l : List DueFile). (x : DueFile) → Contains l x ↔ Contains (timed front ++ timed back) x) is.with.was same in (
+        subst (λ (l : List DueFile). (x : DueFile) → Contains l x ↔ Contains (timed front ++ made ∷ timed back) x) (sym is.with.is)
+            (λ x. (middle_follows made old behind (timed front) (timed back) (λ y. (before y).0) x, middle_follows made (timed front) (timed back) old behind (λ y. (before y).1) x)),
+        is.order,
+      )
 
 pub linked_stands : (file : FileFacts) (files after : List FileFacts) (due new : Due) → IsWithFile file files after → IsFileLinked file due new → IsOrderOf files due → IsOrderOf after new
 linked_stands file files after due new more is stands =
@@ -76,7 +78,7 @@ unlinked_stands number files after due new less is stands =
     in
     record {
       same = subst (λ (l : List DueFile). (x : DueFile) → Contains new.files x ↔ Contains l x) (sym are)
-      (subst (λ (l : List DueFile). (x : DueFile) → Contains l x ↔ Contains (without number (timed files)) x) (sym left) same);
+          (subst (λ (l : List DueFile). (x : DueFile) → Contains l x ↔ Contains (without number (timed files)) x) (sym left) same);
       order = subst AreInOrder (sym left) (others_in_order number due.files stands.order);
     }
 

@@ -41,7 +41,6 @@ pub record IsWithFile (file : FileFacts) (old new : List FileFacts) : Type 0 whe
 abbrev pub IsWithoutFile : ℕ → List FileFacts → List FileFacts → Type 0
 IsWithoutFile number old new = new ≡ filter (λ file. not (file.no == number)) old
 
-
 -- each due list can link so many more files
 abbrev pub HaveRoom : ℕ → List Due → Type 0
 HaveRoom more orders = (level : ℕ) (due : Due) → slice_get orders level ≡ Some due → more ≤ due.spare

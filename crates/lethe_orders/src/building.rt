@@ -52,9 +52,7 @@ fn sort_last_first(order: &mut Vec<DueFile>)
 }
 
 fn compare_dues(file: &DueFile, other: &DueFile) -> Ordering {
-    file.oldest
-        .cmp(&other.oldest)
-        .then(file.no.cmp(&other.no))
+    file.oldest.cmp(&other.oldest).then(file.no.cmp(&other.no))
 }
 
 /// Links files into an empty list, one after the other.

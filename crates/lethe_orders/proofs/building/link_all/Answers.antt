@@ -1,4 +1,4 @@
-use Rattle.std.proofs.Common.{◌≡◌, ◌+◌, ◌≤◌, ℕ, ◌↔◌, Contains, List, length, get_or, sym, ap, ◌∙◌, subst, arith}
+use Rattle.std.proofs.Common.{◌↔◌, Contains, List, get_or, subst, arith}
 use Rattle.std.proofs.lemmas.List.{take_all}
 use Rattle.lethe_due.specs.declared.due_file.DueFile.{DueFile}
 use Rattle.lethe_orders.proofs.Lists.{link_more, none_in_order, none_linked, not_yet, same_read}
@@ -27,7 +27,7 @@ loop-file-preserved g c =
     let file : DueFile = get_or c.args.order.now place (record { no = 0; oldest = 0 }) in
     record {
       same = link_more c.args.order.now c.loop-file.list.files c.link.new.self.files place file c.loop-file-test.true
-      (same_read c.args.order.now place (record { no = 0; oldest = 0 }) c.loop-file-test.true) c.link.ensures.with c.loop-file.invariant.same;
+          (same_read c.args.order.now place (record { no = 0; oldest = 0 }) c.loop-file-test.true) c.link.ensures.with c.loop-file.invariant.same;
       order = c.link.ensures.order;
       room = omega (arith, c.loop-file.invariant.room, c.link.ensures.spare);
     }

@@ -1,4 +1,4 @@
-use Rattle.std.proofs.Common.{◌≡◌, ◌+◌, ◌≤◌, ◌↔◌, length, take, Contains}
+use Rattle.std.proofs.Common.{◌+◌, ◌≤◌, ◌↔◌, length, take, Contains}
 use Rattle.lethe_due.specs.Due.{AreInOrder}
 use Rattle.lethe_due.specs.declared.due_file.DueFile as declared
 use Rattle.lethe_orders.proofs.building.link_all.Given as goal

@@ -1,4 +1,4 @@
-use Rattle.std.proofs.Common.{◌≡◌, ◌∙◌, ◌↔◌, ap, sym, subst, AllPairs, Contains, IsPermutation, List, arith}
+use Rattle.std.proofs.Common.{◌∙◌, ◌↔◌, ap, sym, subst, AllPairs, Contains, IsPermutation, List, arith}
 use Rattle.lethe_due.specs.Due.{Due}
 use Rattle.lethe_due.specs.declared.due_file.DueFile.{DueFile}
 use Rattle.lethe_orders.specs.Standing.{timed}

@@ -1,7 +1,6 @@
-use Rattle.std.proofs.Common.{◌≡◌, ◌∙◌, ◌+◌, Some, List, [], ◌∷◌, ◌++◌, length-append, refl, ap, sym, subst, length, arith}
+use Rattle.std.proofs.Common.{◌≡◌, ◌∙◌, ◌+◌, Some, [], ◌∷◌, ◌++◌, length-append, refl, ap, sym, subst, length, arith}
 use Rattle.std.specs.Prelude.{slice_get}
 use Rattle.std.proofs.lemmas.Option.{slice_get_read}
-use Rattle.lethe_due.specs.Due.{Due}
 use Rattle.lethe_orders.specs.Standing.{AreOrdersOf}
 use Rattle.lethe_orders.proofs.Rooms.{orders_push}
 use Rattle.lethe_orders.proofs.levels.lists_of.Goals as goal
@@ -16,5 +15,5 @@ loop-level-preserved g c =
     record {
       count = ap length c.in_ok-push.ensures.items ∙ pushed;
       orders = subst (AreOrdersOf levels) (sym c.in_ok-push.ensures.items)
-      (orders_push levels c.loop-level.lists.items c.in_ok-list.list files (ap (slice_get levels) c.loop-level.invariant.count ∙ there) c.in_ok-list.ensures c.loop-level.invariant.orders);
+          (orders_push levels c.loop-level.lists.items c.in_ok-list.list files (ap (slice_get levels) c.loop-level.invariant.count ∙ there) c.in_ok-list.ensures c.loop-level.invariant.orders);
     }

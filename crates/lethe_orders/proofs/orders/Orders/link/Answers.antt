@@ -1,4 +1,4 @@
-use Rattle.std.proofs.Common.{◌≡◌, ℕ, List, Option, refl, sym, subst}
+use Rattle.std.proofs.Common.{ℕ, List, Option, refl, sym, subst}
 use Rattle.lethe_due.specs.Due.{Due}
 use Rattle.lethe_orders.specs.Changes.{ChangesAt, IsFileLinked, IsTimeLinked, IsWithFile}
 use Rattle.lethe_orders.proofs.Linking.{changed_stand, linked_stands, none_changes}

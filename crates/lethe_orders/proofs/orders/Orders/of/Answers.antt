@@ -1,4 +1,4 @@
-use Rattle.std.proofs.Common.{◌≡◌, ◌+◌, ◌∙◌, List, subst, sym, ap}
+use Rattle.std.proofs.Common.{◌+◌, ◌∙◌, List, subst, sym, ap}
 use Rattle.lethe_base.specs.declared.config.Fields.{Fields}
 use Rattle.lethe_base.specs.declared.shape.FileFacts.{FileFacts}
 use Rattle.lethe_orders.specs.Standing.{AreOrdersOf}
