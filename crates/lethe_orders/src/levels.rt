@@ -1,5 +1,6 @@
 //! The due lists of some levels.
 ghost use Rattle.std.specs.Prelude.{◌≡◌, ◌≤◌, ◌<◌, ◌+◌, ◌&&◌, length, map, All, IfOk, OnOk, slice_get, ℕ, Some, false};
+ghost use Rattle.std.specs.Bool.{OnFalse};
 ghost use Rattle.lethe_due.specs.Due.{Due};
 ghost use Rattle.lethe_orders.specs.Standing.{AreOrdersOf, HaveOtherNumbers};
 ghost use Rattle.lethe_orders.specs.Changes.{ChangesAt, HaveRoom, IsLinked, IsUnlinked, KeepFiles, are_linked_at, count_at, due_at};
@@ -77,6 +78,7 @@ pub fn unlink_at<L: Ledger>(
 ) -> bool
     ensures found { result ≡ are_linked_at level no lists.old.items }
     ensures unlinked { ChangesAt level (IsUnlinked no) lists.old.items lists.new.items }
+    ensures none { OnFalse result (lists.new.items ≡ lists.old.items) }
     ensures few { steps.new ≤ steps.old + count_at level lists.old.items + 1 }
 {
     if level < lists.len() {

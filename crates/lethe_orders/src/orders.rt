@@ -1,5 +1,6 @@
 //! The orders of a store's levels.
 ghost use Rattle.std.specs.Prelude.{◌≡◌, ◌≤◌, ◌<◌, ◌+◌, ℕ, false, length, map, All, IfOk, OnOk, Some, Option, slice_get};
+ghost use Rattle.std.specs.Bool.{OnFalse};
 ghost use Rattle.std.specs.Option.{is_some};
 ghost use Rattle.lethe_base.specs.declared.shape.Shape as shapes;
 ghost use Rattle.lethe_due.specs.Due.{Due, is_linked};
@@ -72,6 +73,7 @@ impl Orders {
     pub fn unlink<L: Ledger>(&mut self, level: u64, no: u64, steps: &mut Steps<L>) -> bool
         ensures found { result ≡ are_linked_at level no self.old }
         ensures unlinked { ChangesAt level (IsUnlinked no) self.old self.new }
+        ensures none { OnFalse result (self.new ≡ self.old) }
         ensures stand { (shape after : shapes.Shape) → StandFor shape self.old → ChangesAt level (IsWithoutFile no) shape.levels after.levels → StandFor after self.new }
         ensures few { steps.new ≤ steps.old + count_at level self.old + 1 }
     {
