@@ -12,7 +12,7 @@ use Rattle.lethe_base.specs.declared.entry.Entry.{Entry}
 use Rattle.lethe_mem.proofs.Places.{tied}
 use Rattle.lethe_tree.specs.declared.link.Link.{Link}
 use Rattle.lethe_tree.specs.Shape.{Shape, Leaf, Fork, IsBalanced, height, link_of, order, size}
-use Rattle.lethe_tree.specs.Looked.{IsFound, MayLook, Stands, side_of}
+use Rattle.lethe_tree.specs.Looked.{IsFound, MayLook, Stands, below_of, by_side, looks, side_of}
 use Rattle.lethe_tree.specs.Tree.{at_each}
 use Rattle.lethe_tree.proofs.Growth.{many}
 use Rattle.lethe_tree.proofs.Ordered.{back_ascends, below_back, below_front, each_parts, entry_of-back, entry_of-front, front_ascends, stands_left, stands_right, got}
@@ -26,6 +26,7 @@ pub record IsLooking (links : List Link) (entries : List Entry) (key : Bytes) (t
   pub same : entry_of key (at_each entries (order rest)) ≡ entry_of key (at_each entries (order t))
   pub stands : (i : ℕ) → Stands i (order rest) → Stands i (order t)
   pub cost : steps + height rest ≤ first + height t
+  pub each : steps + looks entries key rest ≡ first + looks entries key t
   pub later : first ≤ steps
   pub enough : height rest ≤ left
 
@@ -53,9 +54,15 @@ begins links entries key t from first may = record {
   same = refl;
   stands = λ i h. h;
   cost = omega arith;
+  each = refl;
   later = omega arith;
   enough = low_enough t may.balanced may.few;
 }
+
+looks_at : (entries : List Entry) (key : Bytes) (l : Shape) (i : ℕ) (r : Shape) (e : Entry) (o : Ordering) → slice_get entries i ≡ Some e → key_cmp key e.key ≡ o
+    → looks entries key (Fork l i r) ≡ by_side o (looks entries key l) (looks entries key r) + 1
+looks_at entries key l i r e o some is =
+    ap (λ x. below_of key x (looks entries key l) (looks entries key r) + 1) some ∙ ap (λ x. by_side x (looks entries key l) (looks entries key r) + 1) is
 
 square : (n : ℕ) → n ^ 2 ≡ n * n
 square n = pow-succ' n 1 ∙ ap (λ k. n * k) (pow-succ' n 0 ∙ (ap (λ k. n * k) (pow-zero n) ∙ omega arith))
@@ -77,6 +84,20 @@ module _ (links : List Link) (entries : List Entry) (key : Bytes) (t : Shape) (a
       by : (rest : Shape) → height rest ≤ left → entry_of key (at_each entries (order rest)) ≡ entry_of key (at_each entries (order t)) → IsFound entries key (order t) None
       by Leaf enough same = sym same
       by (Fork l i r) enough same = absurd (omega (arith, enough, none))
+
+  pub each_at_leaf : IsLooking links entries key t at left steps first → at ≡ None → steps ≡ first + looks entries key t
+  each_at_leaf looking none = by looking.rest looking.may looking.each
+    where
+      by : (rest : Shape) → MayLook links entries at rest → steps + looks entries key rest ≡ first + looks entries key t → steps ≡ first + looks entries key t
+      by Leaf may each = omega (arith, each)
+      by (Fork l i r) may each = absurd (let is = may.from_is in cc)
+
+  pub each_at_end : IsLooking links entries key t at left steps first → left ≡ 0 → steps ≡ first + looks entries key t
+  each_at_end looking none = by looking.rest looking.enough looking.each
+    where
+      by : (rest : Shape) → height rest ≤ left → steps + looks entries key rest ≡ first + looks entries key t → steps ≡ first + looks entries key t
+      by Leaf enough each = omega (arith, each)
+      by (Fork l i r) enough each = absurd (omega (arith, enough, none))
 
   pub few_steps : IsBalanced t → IsLooking links entries key t at left steps first → 2 ^ (steps - first) ≤ (length (order t) + 1) ^ 2
   few_steps balanced looking =
@@ -125,15 +146,26 @@ module _ (links : List Link) (entries : List Entry) (key : Bytes) (t : Shape) (a
         let b = many t balanced in
         omega (arith, a, b, squared t)
 
+    pub each_here : (e : Entry) (now : ℕ) → IsLooking links entries key t at left steps first → at ≡ Some here → slice_get entries here ≡ Some e → key_cmp key e.key ≡ Equal → now ≡ steps + 1 → now ≡ first + looks entries key t
+    each_here e now looking some key_is equal is = by looking.rest looking.may looking.each
+      where
+        by : (rest : Shape) → MayLook links entries at rest → steps + looks entries key rest ≡ first + looks entries key t → now ≡ first + looks entries key t
+        by Leaf may each = absurd (let none = may.from_is in cc)
+        by (Fork l i r) may each =
+            let at_is = may.from_is in
+            let same : i ≡ here = cc in
+            let one = looks_at entries key l i r e Equal (ap (slice_get entries) same ∙ key_is) equal in
+            is ∙ (sym (ap (λ n. steps + n) one) ∙ each)
+
     module _ (link : Link) (e : Entry) where
       pub goes_left : IsLooking links entries key t at left steps first → at ≡ Some here → slice_get links here ≡ Some link → slice_get entries here ≡ Some e → key_cmp key e.key ≡ Less
           → IsLooking links entries key t link.left (left - 1) (steps + 1) first
-      goes_left looking some at_is key_is below = by looking.rest looking.may looking.same looking.stands looking.cost looking.enough
+      goes_left looking some at_is key_is below = by looking.rest looking.may looking.same looking.stands looking.cost looking.each looking.enough
         where
           by : (rest : Shape) → MayLook links entries at rest → entry_of key (at_each entries (order rest)) ≡ entry_of key (at_each entries (order t)) → ((i : ℕ) → Stands i (order rest) → Stands i (order t))
-              → steps + height rest ≤ first + height t → height rest ≤ left → IsLooking links entries key t link.left (left - 1) (steps + 1) first
-          by Leaf may found stands cost enough = absurd (let none = may.from_is in cc)
-          by (Fork l i r) may found stands cost enough =
+              → steps + height rest ≤ first + height t → steps + looks entries key rest ≡ first + looks entries key t → height rest ≤ left → IsLooking links entries key t link.left (left - 1) (steps + 1) first
+          by Leaf may found stands cost each enough = absurd (let none = may.from_is in cc)
+          by (Fork l i r) may found stands cost each enough =
               let is = may.from_is in
               let same : i ≡ here = cc in
               let link_is : link ≡ link_of l r = let lies = may.lies.0 in let x = ap (slice_get links) same in cc in
@@ -146,18 +178,19 @@ module _ (links : List Link) (entries : List Entry) (key : Bytes) (t : Shape) (a
                 same = sym (entry_of-front key (at_each entries (order l)) e (at_each entries (order r)) rising below) ∙ (ap (entry_of key) (sym parts) ∙ found);
                 stands = λ k h. stands k (stands_left k (order l) (i ∷ order r) h);
                 cost = grind arith;
+                each = let one = looks_at entries key l i r e Less (ap (slice_get entries) same ∙ key_is) below in omega (arith, one, each);
                 later = let x = looking.later in omega (arith, x);
                 enough = grind arith;
               }
 
       pub goes_right : IsLooking links entries key t at left steps first → at ≡ Some here → slice_get links here ≡ Some link → slice_get entries here ≡ Some e → key_cmp key e.key ≡ Greater
           → IsLooking links entries key t link.right (left - 1) (steps + 1) first
-      goes_right looking some at_is key_is above = by looking.rest looking.may looking.same looking.stands looking.cost looking.enough
+      goes_right looking some at_is key_is above = by looking.rest looking.may looking.same looking.stands looking.cost looking.each looking.enough
         where
           by : (rest : Shape) → MayLook links entries at rest → entry_of key (at_each entries (order rest)) ≡ entry_of key (at_each entries (order t)) → ((i : ℕ) → Stands i (order rest) → Stands i (order t))
-              → steps + height rest ≤ first + height t → height rest ≤ left → IsLooking links entries key t link.right (left - 1) (steps + 1) first
-          by Leaf may found stands cost enough = absurd (let none = may.from_is in cc)
-          by (Fork l i r) may found stands cost enough =
+              → steps + height rest ≤ first + height t → steps + looks entries key rest ≡ first + looks entries key t → height rest ≤ left → IsLooking links entries key t link.right (left - 1) (steps + 1) first
+          by Leaf may found stands cost each enough = absurd (let none = may.from_is in cc)
+          by (Fork l i r) may found stands cost each enough =
               let is = may.from_is in
               let same : i ≡ here = cc in
               let link_is : link ≡ link_of l r = let lies = may.lies.0 in let x = ap (slice_get links) same in cc in
@@ -170,6 +203,7 @@ module _ (links : List Link) (entries : List Entry) (key : Bytes) (t : Shape) (a
                 same = sym (entry_of-back key (at_each entries (order l)) e (at_each entries (order r)) rising above) ∙ (ap (entry_of key) (sym parts) ∙ found);
                 stands = λ k h. stands k (stands_right k (order l) (i ∷ order r) (inr h));
                 cost = grind arith;
+                each = let one = looks_at entries key l i r e Greater (ap (slice_get entries) same ∙ key_is) above in omega (arith, one, each);
                 later = let x = looking.later in omega (arith, x);
                 enough = grind arith;
               }

@@ -1,5 +1,5 @@
 -- What a look for a key finds.
-use Rattle.std.specs.Prelude.{◌≡◌, ℕ, ◌<◌, ◌^◌, ◌⊎◌, List, [], ◌∷◌, length, Bool, true, false, Option, Some, None, slice_get}
+use Rattle.std.specs.Prelude.{◌≡◌, ℕ, ◌+◌, ◌<◌, ◌^◌, ◌⊎◌, List, [], ◌∷◌, length, Bool, true, false, Option, Some, None, slice_get}
 use Rattle.std.specs.Ordering.{is_lt}
 use Rattle.std.specs.declared.cmp.Ordering.{Ordering}
 use Rattle.std.specs.declared.cmp.Ordering.TheVariants.{Less, Equal, Greater}
@@ -9,7 +9,7 @@ use Rattle.lethe_base.specs.declared.entry.Entry.{Entry}
 use Rattle.lethe_tree.specs.declared.link.Link.{Link}
 use Rattle.lethe_tree.specs.declared.placing.Spot.{Spot}
 use Rattle.lethe_tree.specs.declared.placing.Spot.TheVariants as spot
-use Rattle.lethe_tree.specs.Shape.{Shape, IsBalanced, Lies, order, root_of, size}
+use Rattle.lethe_tree.specs.Shape.{Shape, Leaf, Fork, IsBalanced, Lies, order, root_of, size}
 use Rattle.lethe_tree.specs.Tree.{AllBelow, at_each, last_of}
 
 -- a balanced tree of entries in the order of their keys
@@ -39,6 +39,21 @@ abbrev pub side_of : Link → Ordering → Option (Option ℕ)
 side_of link Less = Some link.left
 side_of link Equal = None
 side_of link Greater = Some link.right
+
+-- of two counts that of the side on which a look goes on, or 0 where the keys are one
+abbrev pub by_side : Ordering → ℕ → ℕ → ℕ
+by_side Less left right = left
+by_side Equal left right = 0
+by_side Greater left right = right
+
+abbrev pub below_of : Bytes → Option Entry → ℕ → ℕ → ℕ
+below_of key None left right = 0
+below_of key (Some entry) left right = by_side (key_cmp key entry.key) left right
+
+-- how many nodes stand on the way of a look for a key
+abbrev pub looks : List Entry → Bytes → Shape → ℕ
+looks entries key Leaf = 0
+looks entries key (Fork l i r) = below_of key (slice_get entries i) (looks entries key l) (looks entries key r) + 1
 
 -- whether a key is above that of an entry
 abbrev pub is_above : Bytes → Option Entry → Bool

@@ -3,7 +3,7 @@ ghost use Rattle.std.specs.Prelude.{◌≡◌, ◌≤◌, ◌+◌, ◌-◌, ◌^
 ghost use Rattle.std.specs.Option.{option_copied};
 ghost use Rattle.lethe_base.specs.Keys.{key_cmp};
 ghost use Rattle.lethe_tree.specs.Shape.{Shape, Lies, height, order, root_of};
-ghost use Rattle.lethe_tree.specs.Looked.{IsFound, MayLook, side_of};
+ghost use Rattle.lethe_tree.specs.Looked.{IsFound, MayLook, looks, side_of};
 
 use crate::link::{Link, link_at, size_at};
 use lethe_base::{Entry, Key};
@@ -38,6 +38,7 @@ pub fn index_of<L: Ledger>(
     steps: &mut Steps<L>,
 ) -> Option<usize>
     ensures found { (t : Shape) → MayLook links.now entries.now from t → IsFound entries.now key.now (order t) result }
+    ensures each { (t : Shape) → MayLook links.now entries.now from t → steps.new ≡ steps.old + looks entries.now key.now t }
     ensures few { (t : Shape) → MayLook links.now entries.now from t → 2 ^ (steps.new - steps.old) ≤ (length (order t) + 1) ^ 2 }
 {
     let mut left = 128usize;
