@@ -1,4 +1,4 @@
-//! Tests of ticks and pins of a shared store: sessions one after another, a snapshot that another session lets go in a thread of its own, and pins of two sessions beside ticks of a third.
+//! Tests of ticks and pins of a shared store: two sessions one after another, a snapshot that another session reads and lets go in another thread, and pins of two sessions beside ticks of a third.
 #![tactic(auto)]
 
 #[cfg(test)]
