@@ -11,7 +11,13 @@ use std::process::Abort;
 use std::sync::ledger::Blank;
 
 /// The first expired file at a time, of a shape of levels 0 to 2.
-fn first_at(rt: &impl Abort, alloc: Global, shape: &Shape, config: &Config, to: u64) -> Option<u64> {
+fn first_at(
+    rt: &impl Abort,
+    alloc: Global,
+    shape: &Shape,
+    config: &Config,
+    to: u64,
+) -> Option<u64> {
     assert!(rt; shape.levels.items().len() as u64 == config.fields().levels + 1);
     let first = first_in::<Brand, _>(rt, alloc, shape, config, to, Blank::new(1));
     let due = pick_due(shape, config, to).map(|plan| plan.file);
@@ -77,7 +83,11 @@ fn the_first_expired_file_is_the_lowest_levels(rt: HostRuntime) {
 fn many(alloc: Global, rt: &impl Abort) -> Vec<Row> {
     let mut rows = Vec::new(alloc);
     for no in 0..300u64 {
-        let oldest = if no % 7 == 0 { None } else { Some(no * 31 % 40) };
+        let oldest = if no % 7 == 0 {
+            None
+        } else {
+            Some(no * 31 % 40)
+        };
         rows.push((no % 2, no * 77 % 512, oldest, no % 3))
             .expect(rt, "memory");
     }

@@ -39,7 +39,11 @@ fn orders_of(rt: &impl Abort, alloc: Global, config: &Config, rows: &[Row]) -> O
 }
 
 /// Two files of level 0, and one of level 1.
-const THREE: [Row; 3] = [(0, 4, Some(50), 1), (0, 2, Some(10), 1), (1, 4, Some(10), 1)];
+const THREE: [Row; 3] = [
+    (0, 4, Some(50), 1),
+    (0, 2, Some(10), 1),
+    (1, 4, Some(10), 1),
+];
 
 fn goes_and_comes<L: Ledger, R: Abort>(rt: &R, alloc: Global, blank: Blank)
     requires name { blank.name ≡ L.name }
@@ -76,7 +80,15 @@ fn are_not_linked<L: Ledger, R: Abort>(rt: &R, alloc: Global, blank: Blank)
     assert!(rt; !orders.unlink(2, 6, &mut steps));
     assert!(rt; !orders.unlink(u64::MAX, 6, &mut steps));
     assert!(rt; !orders.is_due(&config, u64::MAX, &mut steps));
-    assert!(rt; add(rt, alloc, &mut orders, &(1, 7, Some(u64::MAX), 1), &mut steps));
+    assert!(rt;
+        add(
+            rt,
+            alloc,
+            &mut orders,
+            &(1, 7, Some(u64::MAX), 1),
+            &mut steps
+        )
+    );
     assert!(rt; !add(rt, alloc, &mut orders, &(1, 7, Some(1), 1), &mut steps));
     assert!(rt; !orders.unlink(1, 7, &mut steps));
 }
