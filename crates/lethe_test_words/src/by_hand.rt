@@ -3,6 +3,8 @@
 use crate::common::Asked;
 use lethe_base::{Fields, Pick};
 use lethe_words::{Certs, Command};
+use std::alloc::Global;
+use std::process::Abort;
 
 /// The names of the options.
 const NAMES: [&str; 11] = [
@@ -19,11 +21,8 @@ const NAMES: [&str; 11] = [
     "certs",
 ];
 
-/// The value of each option, by the place of its name.
-type Values<'a> = [Option<&'a str>; 11];
-
-fn place_of(name: &str) -> Option<usize> {
-    NAMES.iter().position(|known| *known == name)
+fn is_option(name: &str) -> bool {
+    NAMES.iter().any(|known| *known == name)
 }
 
 /// The option's name without its hyphens and what follows `=`, if the word has that.
@@ -35,36 +34,48 @@ fn cut(word: &str) -> Option<(&str, Option<&str>)> {
     }
 }
 
-/// The values with one more, if its option is known and has none yet.
-fn with<'a>(values: Values<'a>, name: &str, value: &'a str) -> Option<Values<'a>> {
-    let place = place_of(name)?;
-    if place >= values.len() || values[place].is_some() {
-        return None;
-    }
-    let mut more = values;
-    more[place] = Some(value);
-    Some(more)
-}
+/// A name and its value.
+type Pair<'a> = (&'a str, &'a str);
 
-/// The values that the options' words give.
-fn values_of<'a>(words: &[&'a str]) -> Option<Values<'a>> {
-    let mut values: Values<'a> = [None; 11];
-    let mut rest = words;
-    while let [word, more @ ..] = rest {
-        let (name, value) = cut(word)?;
-        match (value, more) {
-            (Some(value), _) => {
-                values = with(values, name, value)?;
-                rest = more;
+/// The names in the options' words, each with its value.
+fn pairs_of<'a>(alloc: Global, rt: &impl Abort, words: &[&'a str]) -> Option<Vec<Pair<'a>>> {
+    let mut pairs = Vec::new(alloc);
+    let mut waiting: Option<&'a str> = None;
+    for word in words {
+        let (name, value) = match waiting {
+            Some(_) if word.starts_with('-') => return None,
+            Some(name) => (name, Some(*word)),
+            None => cut(word)?,
+        };
+        match value {
+            Some(value) => {
+                pairs.push((name, value)).expect(rt, "memory");
+                waiting = None;
             }
-            (None, [value, others @ ..]) if !value.starts_with('-') => {
-                values = with(values, name, value)?;
-                rest = others;
-            }
-            _ => return None,
+            None => waiting = Some(name),
         }
     }
-    Some(values)
+    if waiting.is_some() { None } else { Some(pairs) }
+}
+
+fn value_of<'a>(pairs: &[Pair<'a>], name: &str) -> Option<&'a str> {
+    for (known, value) in pairs {
+        if *known == name {
+            return Some(*value);
+        }
+    }
+    None
+}
+
+/// Each name is an option's, and none comes twice.
+fn are_options(pairs: &[Pair<'_>]) -> bool {
+    for place in 0..pairs.len() {
+        let name = pairs[place].0;
+        if !is_option(name) || value_of(&pairs[..place], name).is_some() {
+            return false;
+        }
+    }
+    true
 }
 
 /// A number in digits, without a zero in front of others.
@@ -102,16 +113,16 @@ fn certs(value: Option<&str>) -> Option<Certs> {
 }
 
 /// The fields, each within its limits: a file has at most 65,536 entries, and a buffer no more records than a file entries.
-fn fields(values: &Values<'_>) -> Option<Fields> {
+fn fields(pairs: &[Pair<'_>]) -> Option<Fields> {
     let fields = Fields {
-        threshold: number_in(values[0], 1000, 1, 1_099_511_627_776)?,
-        ratio: number_in(values[1], 4, 2, 16)?,
-        levels: number_in(values[2], 3, 1, 6)?,
-        page: number_in(values[3], 64, 1, 1024)?,
-        tile: number_in(values[4], 4, 1, 64)?,
-        file: number_in(values[5], 8, 1, 256)?,
-        buffer: number_in(values[6], 512, 1, 16_384)?,
-        pick: pick(values[7])?,
+        threshold: number_in(value_of(pairs, "threshold"), 1000, 1, 1_099_511_627_776)?,
+        ratio: number_in(value_of(pairs, "ratio"), 4, 2, 16)?,
+        levels: number_in(value_of(pairs, "levels"), 3, 1, 6)?,
+        page: number_in(value_of(pairs, "page"), 64, 1, 1024)?,
+        tile: number_in(value_of(pairs, "tile"), 4, 1, 64)?,
+        file: number_in(value_of(pairs, "file"), 8, 1, 256)?,
+        buffer: number_in(value_of(pairs, "buffer"), 512, 1, 16_384)?,
+        pick: pick(value_of(pairs, "pick"))?,
     };
     let entries = fields
         .page
@@ -120,26 +131,36 @@ fn fields(values: &Values<'_>) -> Option<Fields> {
     (entries <= 65_536 && fields.buffer <= entries).then_some(fields)
 }
 
-fn asked(command: Command, options: &[&str]) -> Option<Asked> {
-    let values = values_of(options)?;
+fn asked(command: Command, pairs: &[Pair<'_>]) -> Option<Asked> {
+    if !are_options(pairs) {
+        return None;
+    }
     Some(Asked {
         command,
-        fields: fields(&values)?,
-        workers: number_in(values[8], 0, 0, 4)?,
-        turns: number_in(values[9], 10_000, 1, 1_000_000)?,
-        certs: certs(values[10])?,
+        fields: fields(pairs)?,
+        workers: number_in(value_of(pairs, "workers"), 0, 0, 4)?,
+        turns: number_in(value_of(pairs, "turns"), 10_000, 1, 1_000_000)?,
+        certs: certs(value_of(pairs, "certs"))?,
     })
 }
 
-/// What these words ask for.
-pub fn read_by_hand(words: &[&str]) -> Option<Asked> {
+/// What is carried out, and how many words say so.
+fn command(words: &[&str]) -> Option<(Command, usize)> {
     match words {
-        ["run", options @ ..] => asked(Command::Run, options),
-        ["load", seed, rounds, options @ ..] => {
+        ["run", ..] => Some((Command::Run, 1)),
+        ["load", seed, rounds, ..] => {
             let seed = number(seed)?;
-            let rounds = number_in(Some(rounds), 0, 0, 100_000)?;
-            asked(Command::Load { seed, rounds }, options)
+            let rounds = number_in(Some(*rounds), 0, 0, 100_000)?;
+            Some((Command::Load { seed, rounds }, 3))
         }
         _ => None,
     }
+}
+
+/// What these words ask for.
+pub fn read_by_hand(alloc: Global, rt: &impl Abort, words: &[&str]) -> Option<Asked> {
+    let (command, count) = command(words)?;
+    let options = words.get(count..)?;
+    let pairs = pairs_of(alloc, rt, options)?;
+    asked(command, &pairs)
 }

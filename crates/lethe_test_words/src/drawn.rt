@@ -48,25 +48,24 @@ struct Draws {
 }
 
 impl Draws {
-    /// A number below `count`, or 0.
-    fn below(&mut self, count: usize) -> usize {
+    fn next(&mut self) -> u64 {
         self.state = self.state.wrapping_add(0x9E37_79B9_7F4A_7C15);
         let mut mixed = self.state;
         mixed = (mixed ^ (mixed >> 30)).wrapping_mul(0xBF58_476D_1CE4_E5B9);
         mixed = (mixed ^ (mixed >> 27)).wrapping_mul(0x94D0_49BB_1331_11EB);
-        mixed ^= mixed >> 31;
-        (mixed % (count.max(1) as u64)) as usize
+        mixed ^ (mixed >> 31)
     }
 }
 
 /// A front, and up to five words.
 fn list_of(alloc: Global, rt: &impl Abort, draws: &mut Draws) -> Vec<&'static str> {
     let mut list = Vec::new(alloc);
-    for word in FRONTS[draws.below(4) % 4] {
+    for word in FRONTS[(draws.next() % 4) as usize] {
         list.push(*word).expect(rt, "memory");
     }
-    for _ in 0..draws.below(6) {
-        list.push(WORDS[draws.below(30) % 30]).expect(rt, "memory");
+    for _ in 0..draws.next() % 6 {
+        list.push(WORDS[(draws.next() % 30) as usize])
+            .expect(rt, "memory");
     }
     list
 }
@@ -77,7 +76,7 @@ fn ten_thousand_lists_of_words_are_read_as_by_hand(rt: HostRuntime) {
     let mut commands: u64 = 0;
     for number in 0..10_000 {
         let list = list_of(rt.alloc(), &rt, &mut draws);
-        let wanted = read_by_hand(&list);
+        let wanted = read_by_hand(rt.alloc(), &rt, &list);
         let asked = read(rt.alloc(), &rt, &list);
         assert!(rt; asked == wanted, "list {number}");
         commands = commands.saturating_add(u64::from(wanted.is_some()));
