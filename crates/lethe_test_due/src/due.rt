@@ -35,6 +35,7 @@ fn by_time<L: Ledger, R: Abort>(rt: &R, alloc: Global, blank: Blank)
     assert!(rt; due.unlink(9, &mut steps));
     assert_eq!(rt; due.first(&mut steps), Some((2, 50)));
     assert!(rt; !due.unlink(9, &mut steps));
+    assert!(rt; !due.unlink(9, &mut steps));
     assert_eq!(rt; due.first(&mut steps), Some((2, 50)));
 }
 

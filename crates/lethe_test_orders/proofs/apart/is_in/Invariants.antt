@@ -1,4 +1,4 @@
-use Rattle.std.proofs.Common.{◌≡◌, ◌≢◌, take, All}
+use Rattle.std.proofs.Common.{◌≢◌, take, All}
 use Rattle.lethe_base.specs.declared.shape.FileFacts.{FileFacts}
 use Rattle.lethe_test_orders.proofs.apart.is_in.Given as goal
 
