@@ -65,7 +65,7 @@ fn pins_beside_both<D: Disk, R: Threads + Wait + Abort + Sync>(
         move || -> ((Caller<D>, Vec<Pin>), (Caller<D>, Vec<Tick>))
             requires of { (other.seat.table_id ≡ store.now.turn.table.shared.table_id) × (third.seat.table_id ≡ store.now.turn.table.shared.table_id) }
             requires ready { IsReady all_counted (λ o. store_view o.engine) other.seat.me × IsReady all_counted (λ o. store_view o.engine) third.seat.me }
-            ensures of { (result.0.0.seat.table_id ≡ store.now.turn.table.shared.table_id) × (result.1.0.seat.table_id ≡ store.now.turn.table.shared.table_id) }
+            ensures of { (result.0.0.seat.table_id ≡ store.entry.now.turn.table.shared.table_id) × (result.1.0.seat.table_id ≡ store.entry.now.turn.table.shared.table_id) }
             ensures ready { IsReady all_counted (λ o. store_view o.engine) result.0.0.seat.me × IsReady all_counted (λ o. store_view o.engine) result.1.0.seat.me }
         { pins_beside_ticks(alloc, rt, store, other, third) },
     )
