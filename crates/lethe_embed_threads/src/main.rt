@@ -63,9 +63,9 @@ struct Office {
     made: Result<u64, Refused>,
 }
 
-/// What the store held at a point, a session through whose port it is read, and how many records were counted in it or why they weren't.
+/// A report's session, through whose port a pinned store is read, and how many records were counted in it or why they weren't.
+#[derive(Drop)]
 struct Report {
-    snapshot: Snapshot<DirDisk>,
     session: Caller,
     counted: Result<usize, Refused>,
 }
@@ -315,30 +315,17 @@ fn report_beside<R: Threads + Wait + Sync>(
 {
     let center = new_office(rt, alloc, store, first, Town::Center)?;
     let report = new_report(rt, alloc, store, first)?;
-    let (report, center) = join(
-        rt,
-        move || -> Report
-            requires { IsReady all_counted (λ o. store_view o.engine) report.session.seat.me }
-            ensures { (result.session.seat.table_id ≡ report.session.seat.table_id) × IsReady all_counted (λ o. store_view o.engine) result.session.seat.me }
-        { count_records(alloc, report) },
-        move || -> Office
-            requires { (center.session.seat.table_id ≡ store.now.turn.table.shared.table_id) × IsReady all_counted (λ o. store_view o.engine) center.session.seat.me }
-            ensures { (result.session.seat.table_id ≡ center.session.seat.table_id) × IsReady all_counted (λ o. store_view o.engine) result.session.seat.me }
-        { work(rt, alloc, store, center) },
-    );
-    let Report {
-        snapshot,
-        session,
-        counted,
-    } = report;
+    let snapshot = store.pin(rt, alloc, first).map_err(|_| Fault::Call)?;
+    let (report, center) = count_beside(rt, alloc, store, &snapshot, report, center);
     // Nor can a snapshot be dropped: any session releases it.
     store.release(rt, first, snapshot);
+    let Report { session, counted } = report;
     store.join(first, session);
     close(store, first, center)?;
     counted.map_err(|_| Fault::Call)
 }
 
-/// A report on what the store holds now, with a session that is split from the first one.
+/// A report with a session that is split from the first one.
 fn new_report<R: Wait>(
     rt: &R,
     alloc: Global,
@@ -353,32 +340,54 @@ fn new_report<R: Wait>(
     ensures report_of { IfOk result (λ report. report.session.seat.table_id ≡ first.old.seat.table_id) }
     ensures report_ready { IfOk result (λ report. IsReady all_counted (λ o. store_view o.engine) report.session.seat.me) }
 {
-    let session = store.split(rt, alloc, first, 2).map_err(|_| Fault::Call)?;
-    let snapshot = store.pin(rt, alloc, first).map_err(|_| Fault::Call)?;
-    Ok(Report {
-        snapshot,
-        session,
-        counted: Ok(0),
-    })
+    match store.split(rt, alloc, first, 2) {
+        Ok(session) => Ok(Report {
+            session,
+            counted: Ok(0),
+        }),
+        Err(NoMemory) => Err(Fault::Call),
+    }
+}
+
+/// The report and the office, each in a thread of its own. The snapshot is used by reference.
+fn count_beside<R: Threads + Wait + Sync>(
+    rt: &R,
+    alloc: Global,
+    store: &Shared,
+    snapshot: &Snapshot<DirDisk>,
+    report: Report,
+    center: Office,
+) -> (Report, Office)
+    requires of { center.session.seat.table_id ≡ store.now.turn.table.shared.table_id }
+    requires ready { IsReady all_counted (λ o. store_view o.engine) report.session.seat.me × IsReady all_counted (λ o. store_view o.engine) center.session.seat.me }
+    ensures of { (result.0.session.seat.table_id ≡ report.session.seat.table_id) × (result.1.session.seat.table_id ≡ center.session.seat.table_id) }
+    ensures ready { IsReady all_counted (λ o. store_view o.engine) result.0.session.seat.me × IsReady all_counted (λ o. store_view o.engine) result.1.session.seat.me }
+{
+    join(
+        rt,
+        move || -> Report
+            requires { IsReady all_counted (λ o. store_view o.engine) report.session.seat.me }
+            ensures { (result.session.seat.table_id ≡ report.session.seat.table_id) × IsReady all_counted (λ o. store_view o.engine) result.session.seat.me }
+        { count_records(alloc, snapshot, report) },
+        move || -> Office
+            requires { (center.session.seat.table_id ≡ store.now.turn.table.shared.table_id) × IsReady all_counted (λ o. store_view o.engine) center.session.seat.me }
+            ensures { (result.session.seat.table_id ≡ center.session.seat.table_id) × IsReady all_counted (λ o. store_view o.engine) result.session.seat.me }
+        { work(rt, alloc, store, center) },
+    )
 }
 
 /// What the thread of the report does. It takes no turn, so it holds up nobody and waits for nobody.
-fn count_records(alloc: Global, report: Report) -> Report
+fn count_records(alloc: Global, snapshot: &Snapshot<DirDisk>, report: Report) -> Report
     requires { IsReady all_counted (λ o. store_view o.engine) report.session.seat.me }
     ensures of { result.session.seat.table_id ≡ report.session.seat.table_id }
     ensures ready { IsReady all_counted (λ o. store_view o.engine) result.session.seat.me }
 {
     let Report {
-        snapshot,
         mut session,
         counted: _,
     } = report;
-    let counted = count_pinned(alloc, &snapshot, session.port());
-    Report {
-        snapshot,
-        session,
-        counted,
-    }
+    let counted = count_pinned(alloc, snapshot, session.port());
+    Report { session, counted }
 }
 
 fn count_pinned(

@@ -283,12 +283,7 @@ fn let_one_go<D: Disk, R: Wait>(
 }
 
 /// Lets go what is held still.
-pub fn let_go<D: Disk, R: Wait>(
-    rt: &R,
-    store: &Shared<D>,
-    session: &mut Caller<D>,
-    held: Held<D>,
-)
+pub fn let_go<D: Disk, R: Wait>(rt: &R, store: &Shared<D>, session: &mut Caller<D>, held: Held<D>)
     requires of { session.old.seat.table_id ≡ store.now.turn.table.shared.table_id }
     requires ready { IsReady all_counted (λ o. store_view o.engine) session.old.seat.me }
     ensures of { session.new.seat.table_id ≡ session.old.seat.table_id }

@@ -6,7 +6,7 @@ ghost use Rattle.lethe_store.specs.Sessions.{IsReady};
 
 use crate::checks::{check_numbers, check_pins, check_places, check_ticks};
 use crate::common::{Caller, Shared, empty_disk, shared, split};
-use crate::turns::{Tick, ONE, OTHER, Pin, fifty_pins, fifty_ticks};
+use crate::turns::{ONE, OTHER, Pin, Tick, fifty_pins, fifty_ticks};
 use lethe_disk::Disk;
 use std::alloc::Global;
 use std::process::Abort;
@@ -46,7 +46,10 @@ fn pins_beside_both<D: Disk, R: Threads + Wait + Abort + Sync>(
     store: &Shared<D>,
     one: Caller<D>,
     others: (Caller<D>, Caller<D>),
-) -> ((Caller<D>, Vec<Pin>), ((Caller<D>, Vec<Pin>), (Caller<D>, Vec<Tick>)))
+) -> (
+    (Caller<D>, Vec<Pin>),
+    ((Caller<D>, Vec<Pin>), (Caller<D>, Vec<Tick>)),
+)
     requires of { (one.seat.table_id ≡ store.now.turn.table.shared.table_id) × (others.0.seat.table_id ≡ store.now.turn.table.shared.table_id) × (others.1.seat.table_id ≡ store.now.turn.table.shared.table_id) }
     requires ready { IsReady all_counted (λ o. store_view o.engine) one.seat.me × IsReady all_counted (λ o. store_view o.engine) others.0.seat.me × IsReady all_counted (λ o. store_view o.engine) others.1.seat.me }
     ensures of { (result.0.0.seat.table_id ≡ store.now.turn.table.shared.table_id) × (result.1.0.0.seat.table_id ≡ store.now.turn.table.shared.table_id) × (result.1.1.0.seat.table_id ≡ store.now.turn.table.shared.table_id) }
@@ -62,7 +65,7 @@ fn pins_beside_both<D: Disk, R: Threads + Wait + Abort + Sync>(
         move || -> ((Caller<D>, Vec<Pin>), (Caller<D>, Vec<Tick>))
             requires of { (other.seat.table_id ≡ store.now.turn.table.shared.table_id) × (third.seat.table_id ≡ store.now.turn.table.shared.table_id) }
             requires ready { IsReady all_counted (λ o. store_view o.engine) other.seat.me × IsReady all_counted (λ o. store_view o.engine) third.seat.me }
-            ensures of { (result.0.0.seat.table_id ≡ store.now.turn.table.shared.table_id) × (result.1.0.seat.table_id ≡ store.now.turn.table.shared.table_id) }
+            ensures of { (result.0.0.seat.table_id ≡ store.entry.now.turn.table.shared.table_id) × (result.1.0.seat.table_id ≡ store.entry.now.turn.table.shared.table_id) }
             ensures ready { IsReady all_counted (λ o. store_view o.engine) result.0.0.seat.me × IsReady all_counted (λ o. store_view o.engine) result.1.0.seat.me }
         { pins_beside_ticks(alloc, rt, store, other, third) },
     )
@@ -82,8 +85,13 @@ fn two_threads_pin_beside_the_ticks_of_a_third(rt: HostRuntime) {
     let (store, mut one) = shared(alloc, &rt, empty_disk(alloc, &rt));
     let other = split(alloc, &rt, &store, &mut one, 1);
     let third = split(alloc, &rt, &store, &mut one, 2);
-    let ((mut one, pins), ((other, others), (third, ticks))) =
-        pins_beside_both(alloc, &rt, &store, one, (other, third));
+    let ((mut one, pins), ((other, others), (third, ticks))) = pins_beside_both(
+        alloc,
+        &rt,
+        &store,
+        one,
+        (other, third),
+    );
     let changes = check_all(&rt, &pins, &others, &ticks);
     store.join(&mut one, other);
     store.join(&mut one, third);

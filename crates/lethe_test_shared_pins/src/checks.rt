@@ -1,6 +1,6 @@
 //! What fifty pins of each of two sessions and fifty ticks have to have told, whatever their order was.
 
-use crate::turns::{Tick, Pin};
+use crate::turns::{Pin, Tick};
 use lethe_engine::Ticked;
 use std::process::Abort;
 
@@ -50,7 +50,10 @@ pub fn check_pins(rt: &impl Abort, pins: &[Pin], others: &[Pin], ticks: &[Tick])
         let clock = clock_behind(ticks, pin.point);
         let above = pin.limit.saturating_sub(clock);
         assert!(rt; 0 < above && above <= 100, "{above} above {clock}");
-        let (own, beside) = (number_behind(pins, pin.point), number_behind(others, pin.point));
+        let (own, beside) = (
+            number_behind(pins, pin.point),
+            number_behind(others, pin.point),
+        );
         assert!(rt; pin.own == own && pin.beside == beside, "at {}", pin.point);
     }
 }
@@ -58,8 +61,7 @@ pub fn check_pins(rt: &impl Abort, pins: &[Pin], others: &[Pin], ticks: &[Tick])
 /// Whether such a pin was made, and behind that one of its session's which is known as let go.
 fn is_held(pins: &[Pin], known: u64, barring: (u64, u64)) -> bool {
     let (number, limit) = barring;
-    pins.iter()
-        .any(|pin| pin.number == number && pin.limit == limit && known < number)
+    pins.iter().any(|pin| pin.number == number && pin.limit == limit && known < number)
 }
 
 /// A tick has to have been barred by a pin that was made and isn't known as let go.
@@ -71,7 +73,8 @@ fn is_barred(one: &[Pin], other: &[Pin], tick: &Tick, barring: (u64, u64)) -> bo
 /// Whether it has the next certificate, of a threshold before its time.
 fn is_certified(told: &Ticked, to: u64, number: u64) -> bool {
     let before = to.saturating_sub(100);
-    let certified = matches!(told.certificate, Some(cert) if cert.number == number && cert.before == before);
+    let certified =
+        matches!(told.certificate, Some(cert) if cert.number == number && cert.before == before);
     certified && told.clock == to
 }
 

@@ -5,9 +5,7 @@ ghost use Rattle.lethe_store.specs.Since.{all_counted};
 ghost use Rattle.lethe_store.specs.Sessions.{IsReady};
 
 use crate::asks::{Ask, BARRED, Held, Row, Told, Which, check_rows, let_go};
-use crate::common::{
-    Caller, Shared, VALUE, empty_disk, holds_value, shared, snapshot_of, split,
-};
+use crate::common::{Caller, Shared, VALUE, empty_disk, holds_value, shared, snapshot_of, split};
 use lethe_disk::Disk;
 use lethe_snapshot::Snapshot;
 use lethe_test_values::{key_of, value_of};

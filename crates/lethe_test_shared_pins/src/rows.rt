@@ -184,7 +184,14 @@ fn a_snapshot_of_another_store_lets_go_the_pin_of_its_number(rt: HostRuntime) {
     check_rows(alloc, &rt, &other_store, &mut other, &mut others, &PINNED);
     let_go(&rt, &store, &mut one, others);
     check_rows(alloc, &rt, &store, &mut one, &mut held, &FREE);
-    check_rows(alloc, &rt, &other_store, &mut other, &mut held, &PINNED_STILL);
+    check_rows(
+        alloc,
+        &rt,
+        &other_store,
+        &mut other,
+        &mut held,
+        &PINNED_STILL,
+    );
     let_go(&rt, &store, &mut one, held);
     let _ = store.finish(&rt, one).into_disk();
     let _ = other_store.finish(&rt, other).into_disk();

@@ -4,6 +4,3 @@ use Rattle.lethe_embed_threads.proofs.new_report.Goals as goal
 
 pub split-requires-send-D-Port : goal.split-requires-send-D-Port
 split-requires-send-D-Port g c κs within = search (sendable, port_send)
-
-pub pin-requires-send-D-Port : goal.pin-requires-send-D-Port
-pin-requires-send-D-Port g c κs within = search (sendable, port_send)

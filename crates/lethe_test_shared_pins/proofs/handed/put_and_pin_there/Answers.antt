@@ -1,6 +1,5 @@
 use denote.Param.{param}
-use denote.Param.Send.{IsSend, param_send, sendable}
-use Rattle.std.proofs.Crossing.{Vec-send, crosses}
+use denote.Param.Send.{param_send}
 use Rattle.lethe_store.specs.contracts.changes.Changes as Changes
 use Rattle.lethe_store.specs.contracts.changes.ChangesLog.TheImpl as changes
 use Rattle.lethe_store.specs.contracts.entry.Entry as Entry
