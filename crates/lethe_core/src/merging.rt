@@ -39,7 +39,7 @@ const MORE_THAN_PAIRS: u128 = 1 << 64;
 
 impl<D: Disk> Core<D> {
     /// Carries out the merges and sweeps that are due, one after another until none is, where level 0 is crowded and no job is in flight.
-    pub(crate) fn merge_due(
+    pub fn merge_due(
         &mut self,
         alloc: Global,
         port: &mut D::Port,

@@ -6,3 +6,5 @@ pub mod Placed
 pub mod Spent
 pub mod Ticked
 pub mod Crossing
+pub mod Rows
+pub mod Listed

@@ -1,5 +1,5 @@
 -- The laws of the log of changes: each call keeps what became of the opened store.
-use Rattle.std.proofs.Common.{◌≡◌, ◌≢◌, inl, inr, ℕ, ◌+◌, List, [], ◌∷◌, ◌++◌, length, Option, Some, None, Result, Ok, Err, refl, sym, ap, ◌∙◌, subst, arith, append-nil, append_assoc}
+use Rattle.std.proofs.Common.{◌≡◌, ◌≢◌, ◌≤◌, inl, inr, ℕ, ◌+◌, List, [], ◌∷◌, ◌++◌, length, Option, Some, None, Result, Ok, Err, refl, sym, ap, ◌∙◌, subst, arith, append-nil, append_assoc}
 use Rattle.std.specs.Prelude.{All, Contains, option_map}
 use Rattle.std.specs.Option.{option_map_or, option_or}
 use Rattle.std.specs.Result.{result_err}
@@ -174,48 +174,75 @@ noted_spent Tells caller asked why old new face certificates spent = record {
   spent = spent_either (λ l. Contains l Spent → IsSpent Tells old new) why (λ has. absurd (nothing_noted has)) (λ last is has. spent last is);
 }
 
+-- What one turn does of the store, by what is entered and noted of it. Each call is such a step, and so is a row of changes.
+pub record IsStep (Tells : Type 0) (said : List Entry) (more : List Mark) (old new : StoreView) : Type 0 where
+  pub sound : IsSound Tells new.view
+  -- it counts what is entered, of which the first that failed stops it, and whose ticks move its clock
+  pub count : new.view.state.count ≡ old.view.state.count + length said
+  pub stopped : new.view.state.stopped ≡ stopped_behind old.view.state.stopped old.view.state.count said
+  pub clock : clock_of new.view.state.manifest ≡ clock_along (clock_of old.view.state.manifest) said
+  pub faults : old.view.faults ≤ new.view.faults
+  pub drawn : old.view.state.next ≤ new.view.state.next
+  -- whatever history it stood for, it stands for that with what is entered, and what a crash before may leave is as it was
+  pub stands : Tells → (config : Fields) (opened : Opened) (h : History) → StandsSince config opened h old.view → StandsSince config opened (h ++ changes_of said) new.view
+  pub calls : Tells → (config : Fields) (opened : Opened) (h : History) → StandsSince config opened h old.view → Continues old.view.disk new.view.disk
+  -- its face and its certificates are those that were, with what is noted
+  pub face : face_of new.view ≡ face_along (face_of old.view) more
+  pub numbered : AreNumbered (old.view.pins.made + 1) (made_in more)
+  pub certificates : new.certificates ≡ old.certificates ++ answered_in more
+  pub certified : Tells → (config : Fields) (opened : Opened) (h : History) → StandsSince config opened h old.view → All (IsCertifiedAt config opened (h ++ changes_of said) new.view) (certified_in more)
+  pub spent : Contains more Spent → IsSpent Tells old new
+
+-- a call is one
+pub step_of_call : (Tells : Type 0) (old new : StoreView) (caller : ℕ) (asked : Asked) (why : Option Refused) (face : Face) → Answers Tells asked why face old.view new.view
+    → IsFirstFailure old.view.state.stopped old.view.state.count why → (more : List Mark) → IsNoted Tells caller asked why more old new → IsStep Tells (entries_by caller asked why) more old new
+step_of_call Tells old new caller asked why face answers first more noted = record {
+  sound = answers.sound;
+  count = answers.count ∙ counted_is caller asked why old.view.state.count;
+  stopped = answers.stopped ∙ stopped_is caller asked why old.view.state.stopped old.view.state.count first;
+  clock = answers.clock ∙ clock_is caller asked why (clock_of old.view.state.manifest);
+  faults = answers.faults;
+  drawn = answers.drawn;
+  stands = λ told config opened h s. subst (λ l. StandsSince config opened l new.view) (behind_is h caller asked why) (answers.stands told config opened h s caller);
+  calls = λ told config opened h s. (let goes = answers.goes told config opened h s caller in record { later = goes.later; past = goes.past });
+  face = noted.face;
+  numbered = noted.numbered;
+  certificates = noted.certificates;
+  certified = λ told config opened h s. subst (λ l. All (IsCertifiedAt config opened l new.view) (certified_in more)) (behind_is h caller asked why) (noted.certified told config opened h s);
+  spent = noted.spent;
+}
+
 module _ (Tells PortsFail : Type 0) (o old : StoreView) (entries : List Entry) (marks : List Mark) (since : Since Tells PortsFail o entries marks old) where
   -- whatever history the opened store stood for, it stands for that with the entries
   pub stands_along : Tells → (config : Fields) (opened : Opened) (h : History) → StandsSince config opened h o.view → StandsSince config opened (h ++ changes_of entries) old.view
   stands_along told config opened h s = (since.stands told config opened h [] (record { since = s; certified = All-nil (IsCertified config opened h o.view) })).since
 
-  module _ (new : StoreView) (caller : ℕ) (asked : Asked) (why : Option Refused) (face : Face) (answers : Answers Tells asked why face old.view new.view)
-      (first : IsFirstFailure old.view.state.stopped old.view.state.count why) (more : List Mark) (noted : IsNoted Tells caller asked why more old new) where
-    abbrev said : List Entry
-    said = entries_by caller asked why
-
-    history_is : (h : History) → behind (h ++ changes_of entries) caller asked why ≡ h ++ changes_of (entries ++ said)
-    history_is h = behind_is (h ++ changes_of entries) caller asked why ∙ append_assoc h (changes_of entries) (changes_of said) ∙ ap (λ l. h ++ l) (sym (map-append change_of entries said))
-
-    -- what a crash at an earlier moment may leave is as it was
-    calls_behind : Tells → (config : Fields) (opened : Opened) (h : History) → StandsSince config opened (h ++ changes_of entries) old.view → Continues old.view.disk new.view.disk
-    calls_behind told config opened h s = let goes = answers.goes told config opened (h ++ changes_of entries) s caller in record { later = goes.later; past = goes.past }
-
-    counts_more : new.view.state.count ≡ old.view.state.count + length said
-    counts_more = answers.count ∙ counted_is caller asked why old.view.state.count
+  module _ (new : StoreView) (said : List Entry) (more : List Mark) (step : IsStep Tells said more old new) where
+    history_is : (h : History) → h ++ changes_of entries ++ changes_of said ≡ h ++ changes_of (entries ++ said)
+    history_is h = append_assoc h (changes_of entries) (changes_of said) ∙ ap (λ l. h ++ l) (sym (map-append change_of entries said))
 
     abbrev grown : History → History
-    grown h = behind (h ++ changes_of entries) caller asked why
+    grown h = h ++ changes_of entries ++ changes_of said
 
-    -- what was noted stands behind the call
+    -- what was noted stands behind the step
     placed_behind : Tells → (config : Fields) (opened : Opened) (h : History) → StandsSince config opened h o.view → All (IsCertifiedAt config opened (grown h) new.view) (certified_in (marks ++ more))
     placed_behind told config opened h s =
         let stood = stands_along told config opened h s in
-        let carried = placed_certified config opened (h ++ changes_of entries) (grown h) old.view new.view (λ start on. answers.stands told config start (h ++ changes_of entries) on caller) (calls_behind told config opened h stood) in
+        let carried = placed_certified config opened (h ++ changes_of entries) (grown h) old.view new.view (λ start on. step.stands told config start (h ++ changes_of entries) on) (step.calls told config opened (h ++ changes_of entries) stood) in
         subst (All (IsCertifiedAt config opened (grown h) new.view)) (sym (certified-append marks more))
         (All-append (IsCertifiedAt config opened (grown h) new.view) (certified_in marks) (certified_in more)
         (All-weaker (IsCertifiedAt config opened (h ++ changes_of entries) old.view) (IsCertifiedAt config opened (grown h) new.view) carried (certified_in marks) (since.diary.certified told config opened h s))
-        (noted.certified told config opened (h ++ changes_of entries) stood))
+        (step.certified told config opened (h ++ changes_of entries) stood))
 
     -- so do all certificates
     all_behind : Tells → (config : Fields) (opened : Opened) (h : History) (answered : List Certificate) → StandsFor config opened h o.view answered → StandsFor config opened (grown h) new.view (answered ++ answered_in (marks ++ more))
     all_behind told config opened h answered s =
         let stood = since.stands told config opened h answered s in
-        let carried = all_certified config opened (h ++ changes_of entries) (grown h) old.view new.view (λ start on. answers.stands told config start (h ++ changes_of entries) on caller) (calls_behind told config opened h stood.since)
-        (answered ++ answered_in marks) stood in
+        let carried = all_certified config opened (h ++ changes_of entries) (grown h) old.view new.view (λ start on. step.stands told config start (h ++ changes_of entries) on)
+        (step.calls told config opened (h ++ changes_of entries) stood.since) (answered ++ answered_in marks) stood in
         let P : Certificate → Type 0 = IsCertified config opened (grown h) new.view in
         let added : All P (answered_in more) = All-map P (λ (told : ℕ × Certificate). told.1) (certified_in more)
-        (All-weaker (IsCertifiedAt config opened (grown h) new.view) (λ (told : ℕ × Certificate). P told.1) (λ told is. (is.0, is.1, is.3)) (certified_in more) (noted.certified told config opened (h ++ changes_of entries) stood.since)) in
+        (All-weaker (IsCertifiedAt config opened (grown h) new.view) (λ (told : ℕ × Certificate). P told.1) (λ told is. (is.0, is.1, is.3)) (certified_in more) (step.certified told config opened (h ++ changes_of entries) stood.since)) in
         record {
           since = carried.since;
           certified = subst (All P) (append_assoc answered (answered_in marks) (answered_in more) ∙ ap (λ l. answered ++ l) (sym (answered-append marks more)))
@@ -224,10 +251,10 @@ module _ (Tells PortsFail : Type 0) (o old : StoreView) (entries : List Entry) (
 
     -- numbers that are used up stay so
     spent_on : IsSpent Tells o old → IsSpent Tells o new
-    spent_on (inl full) = inl (let more = counts_more in let most = answers.sound.writable.count in omega (arith, full, more, most))
-    spent_on (inr (inl full)) = inr (inl (let more = ap (λ (f : Face). f.made) noted.face ∙ made_along (face_of old.view) more noted.numbered in let most = answers.sound.pins.made in omega (arith, full, more, most)))
-    spent_on (inr (inr (inl full))) = inr (inr (inl (let is = ap (λ (f : Face). f.rounds) noted.face in let rise = rounds_rise (face_of old.view) more in omega (arith, full, is, rise))))
-    spent_on (inr (inr (inr short))) = inr (inr (inr (λ told config opened h s. let was = short told config opened h s in let more = counts_more in let drawn = answers.drawn in omega (arith, was, more, drawn))))
+    spent_on (inl full) = inl (let more = step.count in let most = step.sound.writable.count in omega (arith, full, more, most))
+    spent_on (inr (inl full)) = inr (inl (let more = ap (λ (f : Face). f.made) step.face ∙ made_along (face_of old.view) more step.numbered in let most = step.sound.pins.made in omega (arith, full, more, most)))
+    spent_on (inr (inr (inl full))) = inr (inr (inl (let is = ap (λ (f : Face). f.rounds) step.face in let rise = rounds_rise (face_of old.view) more in omega (arith, full, is, rise))))
+    spent_on (inr (inr (inr short))) = inr (inr (inr (λ told config opened h s. let was = short told config opened h s in let more = step.count in let drawn = step.drawn in omega (arith, was, more, drawn))))
 
     spent_since : IsSpent Tells old new → IsSpent Tells o new
     spent_since (inl full) = inl full
@@ -236,39 +263,42 @@ module _ (Tells PortsFail : Type 0) (o old : StoreView) (entries : List Entry) (
     spent_since (inr (inr (inr short))) = inr (inr (inr (λ told config opened h s. short told config opened (h ++ changes_of entries) (stands_along told config opened h s))))
 
     spent_behind : Contains (marks ++ more) Spent → IsSpent Tells o new
-    spent_behind has = elim (Contains-append_cases marks more Spent has) [ inl before ↦ spent_on (since.diary.spent before) | inr now ↦ spent_since (noted.spent now) ]
+    spent_behind has = elim (Contains-append_cases marks more Spent has) [ inl before ↦ spent_on (since.diary.spent before) | inr now ↦ spent_since (step.spent now) ]
 
-    -- the diary with the call's own marks
+    -- the diary with the step's own marks
     diary_behind : Diary Tells o (entries ++ said) (marks ++ more) new
     diary_behind = record {
-      face = noted.face ∙ ap (λ (f : Face). face_along f more) since.diary.face ∙ sym (fold-append face_by (face_of o.view) marks more);
+      face = step.face ∙ ap (λ (f : Face). face_along f more) since.diary.face ∙ sym (fold-append face_by (face_of o.view) marks more);
       numbered = subst (AreNumbered (o.view.pins.made + 1)) (sym (made-append marks more))
           (numbered-append (o.view.pins.made + 1) (made_in marks) (made_in more) since.diary.numbered
           (subst (λ n. AreNumbered n (made_in more)) (let m : old.view.pins.made ≡ o.view.pins.made + length (made_in marks) = ap (λ (f : Face). f.made) since.diary.face ∙ made_along (face_of o.view) marks since.diary.numbered in
-          let e : old.view.pins.made + 1 ≡ o.view.pins.made + 1 + length (made_in marks) = omega arith in e) noted.numbered));
-      certificates = noted.certificates ∙ ap (λ l. l ++ answered_in more) since.diary.certificates ∙ append_assoc o.certificates (answered_in marks) (answered_in more)
+          let e : old.view.pins.made + 1 ≡ o.view.pins.made + 1 + length (made_in marks) = omega arith in e) step.numbered));
+      certificates = step.certificates ∙ ap (λ l. l ++ answered_in more) since.diary.certificates ∙ append_assoc o.certificates (answered_in marks) (answered_in more)
           ∙ ap (λ l. o.certificates ++ l) (sym (answered-append marks more));
       certified = λ told config opened h s. subst (λ l. All (IsCertifiedAt config opened l new.view) (certified_in (marks ++ more))) (history_is h) (placed_behind told config opened h s);
       spent = spent_behind;
     }
 
-    -- the store behind a call is what became of the opened one by the call's own entry and its own marks
-    pub since_call : Since Tells PortsFail o (entries ++ said) (marks ++ more) new
-    since_call = record {
-      sound = answers.sound;
-      count = answers.count ∙ counted_is caller asked why old.view.state.count
-          ∙ (let c = since.count in let l : length (entries ++ said) ≡ length entries + length said = length-append entries said in
-          let e : old.view.state.count + length said ≡ o.view.state.count + length (entries ++ said) = omega arith in e);
-      stopped = answers.stopped ∙ stopped_is caller asked why old.view.state.stopped old.view.state.count first
-          ∙ (λ i. stopped_behind (since.stopped i) (since.count i) said) ∙ sym (stopped-append o.view.state.stopped o.view.state.count entries said);
-      clock = answers.clock ∙ clock_is caller asked why (clock_of old.view.state.manifest) ∙ ap (λ (clock : Clock). clock_along clock said) since.clock
+    -- the store behind a step is what became of the opened one by the step's own entries and marks
+    pub since_step : Since Tells PortsFail o (entries ++ said) (marks ++ more) new
+    since_step = record {
+      sound = step.sound;
+      count = (let c = since.count in let n = step.count in let l : length (entries ++ said) ≡ length entries + length said = length-append entries said in
+          let e : new.view.state.count ≡ o.view.state.count + length (entries ++ said) = omega arith in e);
+      stopped = step.stopped ∙ (λ i. stopped_behind (since.stopped i) (since.count i) said) ∙ sym (stopped-append o.view.state.stopped o.view.state.count entries said);
+      clock = step.clock ∙ ap (λ (clock : Clock). clock_along clock said) since.clock
           ∙ sym (fold-append (λ (clock : Clock) (entry : Entry). clock_by entry.did entry.call clock) (clock_of o.view.state.manifest) entries said);
-      faults = (let a = since.faults in let b = answers.faults in omega arith);
+      faults = (let a = since.faults in let b = step.faults in omega arith);
       diary = diary_behind;
       stands = λ told config opened h answered s. subst (λ l. StandsFor config opened l new.view (answered ++ answered_in (marks ++ more))) (history_is h) (all_behind told config opened h answered s);
       calls = λ told config opened h s.
-          continues_then o.view.disk old.view.disk new.view.disk (since.calls told config opened h s) (calls_behind told config opened h (stands_along told config opened h s));
+          continues_then o.view.disk old.view.disk new.view.disk (since.calls told config opened h s) (step.calls told config opened (h ++ changes_of entries) (stands_along told config opened h s));
     }
+
+  -- so is the store behind a call, by the call's own entry and its own marks
+  pub since_call : (new : StoreView) (caller : ℕ) (asked : Asked) (why : Option Refused) (face : Face) → Answers Tells asked why face old.view new.view → IsFirstFailure old.view.state.stopped old.view.state.count why
+      → (more : List Mark) → IsNoted Tells caller asked why more old new → Since Tells PortsFail o (entries ++ entries_by caller asked why) (marks ++ more) new
+  since_call new caller asked why face answers first more noted = since_step new (entries_by caller asked why) more (step_of_call Tells old new caller asked why face answers first more noted)
 
 -- the opened store has had no entry and no mark
 pub since_opened : (Tells PortsFail : Type 0) (o : StoreView) → IsSound Tells o.view → Since Tells PortsFail o [] [] o

@@ -10,3 +10,4 @@ pub mod Laws
 pub mod Reads
 pub mod Reasons
 pub mod Ports
+pub mod Rows

@@ -105,8 +105,8 @@ impl<D: Disk> Store<D, Changes> {
         self.change(rt, alloc, session, Asked::Erase { range })
     }
 
-    // Makes a change in one turn.
-    fn change<R: Wait>(
+    /// Makes a change in one turn.
+    pub(crate) fn change<R: Wait>(
         &self,
         rt: &R,
         alloc: Global,

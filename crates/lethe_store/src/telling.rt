@@ -1,5 +1,5 @@
 //! What is told of each call, in values that have no bytes.
-ghost use Rattle.std.specs.Prelude.{◌≡◌, ℕ, [], ◌∷◌, length, Some};
+ghost use Rattle.std.specs.Prelude.{◌≡◌, ℕ, [], ◌∷◌, length, Some, option_and_then};
 ghost use Rattle.std.specs.Result.{result_err};
 ghost use Rattle.lethe_base.specs.declared.call.Call as calls;
 ghost use Rattle.lethe_base.specs.declared.call.Call.TheVariants.{Tick};
@@ -7,6 +7,7 @@ ghost use Rattle.lethe_core.specs.Asked.{Makes};
 ghost use Rattle.lethe_engine.specs.ChangeRows.{call_of};
 ghost use Rattle.lethe_store.specs.Diary.{spent_by};
 ghost use Rattle.lethe_store.specs.Entries.{did_by, entries_of, failed_by};
+ghost use Rattle.lethe_store.specs.Rows.{entries_in_row};
 ghost use Rattle.lethe_store.specs.Ticks.{ticked_by};
 ghost use Rattle.lethe_store.specs.declared.entry.Mark.TheVariants.{Made, Released};
 
@@ -14,6 +15,7 @@ use crate::entry::{Entry, Mark};
 use lethe_base::{Call, Did, Refused};
 use lethe_engine::{Asked, Ticked};
 use lethe_turn::{Names, Told};
+use std::collections::VecDeque;
 use std::marker::Brand;
 
 fn named_call<N: Names<Call>>(asked: &Asked) -> Told<Call>
@@ -128,6 +130,58 @@ pub(crate) fn told_entries(caller: u64, call: &Told<Call>, did: Option<Did>) -> 
     named_entries::<Brand>(caller, call, did)
 }
 
+fn named_changes<N: Names<Asked>>(row: &VecDeque<Asked>) -> Told<Asked>
+    requires { N.named ≡ row.now.items }
+    ensures { result.items ≡ row.now.items }
+{
+    Told::list::<N>()
+}
+
+/// The changes of a row, told before it takes them out.
+pub(crate) fn told_changes(row: &VecDeque<Asked>) -> Told<Asked>
+    ensures { result.items ≡ row.now.items }
+{
+    named_changes::<Brand>(row)
+}
+
+fn named_row<N: Names<Entry>>(
+    caller: u64,
+    row: &Told<Asked>,
+    done: u64,
+    refused: &Option<Refused>,
+) -> Told<Entry>
+    requires { N.named ≡ entries_in_row caller row.now.items done refused.now }
+    ensures { result.items ≡ entries_in_row caller row.now.items done refused.now }
+{
+    Told::list::<N>()
+}
+
+/// The entries of a row of which so many changes were made, and the next one was refused for this, if it was.
+pub(crate) fn told_row(
+    caller: u64,
+    row: &Told<Asked>,
+    done: u64,
+    refused: &Option<Refused>,
+) -> Told<Entry>
+    ensures { result.items ≡ entries_in_row caller row.now.items done refused.now }
+{
+    named_row::<Brand>(caller, row, done, refused)
+}
+
+fn named_nothing<N: Names<Mark>>() -> Told<Mark>
+    requires { N.named ≡ [] }
+    ensures { result.items ≡ [] }
+{
+    Told::list::<N>()
+}
+
+/// No mark.
+pub(crate) fn told_nothing() -> Told<Mark>
+    ensures { result.items ≡ [] }
+{
+    named_nothing::<Brand>()
+}
+
 /// How a call went in which the disk failed.
 fn failed_by(why: &Refused) -> Option<Did>
     ensures { result ≡ failed_by why.now }
@@ -158,5 +212,15 @@ pub(crate) fn number_of(did: Option<Did>) -> u64
     match did {
         None => 0,
         Some(_) => 1,
+    }
+}
+
+/// How the next change of a row went, where it is in a history.
+pub(crate) fn did_in_row(refused: &Option<Refused>) -> Option<Did>
+    ensures { result ≡ option_and_then failed_by refused.now }
+{
+    match refused {
+        Some(why) => failed_by(why),
+        None => None,
     }
 }
