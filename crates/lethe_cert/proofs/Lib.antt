@@ -1,1 +1,5 @@
+mod Again
+mod Digits
+mod Members
+mod Texts
 pub mod Told
