@@ -151,6 +151,12 @@ swept_send = search (draft_tile_send, crosses, sendable) depth 40
 made_send : IsSend Made.the_row
 made_send = search (draft_send, swept_send, crosses, sendable) depth 60
 
+buffer_sync : IsSync VecBuffer.the_row
+buffer_sync = search (crosses, sendable) depth 60 fits 4000
+
+pin_sync : IsSync HeldPin.the_row
+pin_sync = search (crosses, sendable) depth 40
+
 -- What stands over a disk whose pages may cross
 
 module _ (D P Q : RattleType) (g : Ghosts D.Denot P.Denot Q.Denot) (s : IsSend P) (y : IsSync P) where
@@ -169,8 +175,14 @@ module _ (D P Q : RattleType) (g : Ghosts D.Denot P.Denot Q.Denot) (s : IsSend P
   level_send : IsSend (Level.the_row D P Q g)
   level_send = declared_send (Level.the_type D P Q g) (Vec-send _ shared_send, (bool_send, tt))
 
+  level_sync : IsSync (Level.the_row D P Q g)
+  level_sync = declared_sync (Level.the_type D P Q g) (Vec-sync _ shared_sync, (bool_sync, tt))
+
   version_send : IsSend (Version.the_row D P Q g)
   version_send = declared_send (Version.the_type D P Q g) (Vec-send _ level_send, tt)
+
+  version_sync : IsSync (Version.the_row D P Q g)
+  version_sync = declared_sync (Version.the_type D P Q g) (Vec-sync _ level_sync, tt)
 
   filed_send : IsSend (Filed.the_row D P Q g)
   filed_send = declared_send (Filed.the_type D P Q g) (u64_send, (u64_send, (shared_send, tt)))
@@ -218,3 +230,7 @@ module _ (D P Q : RattleType) (g : Ghosts D.Denot P.Denot Q.Denot) (s : IsSend P
   pub snapshot_send : IsSend (Snapshot.the_row D P Q g)
   snapshot_send = declared_send (Snapshot.the_type D P Q g)
       (buffer_send, (search (as_row_send, buffer_send, crosses, sendable) depth 40, (version_send, (search (as_row_send, crosses, sendable) depth 60, (u64_send, (pin_send, tt))))))
+
+  pub snapshot_sync : IsSync (Snapshot.the_row D P Q g)
+  snapshot_sync = declared_sync (Snapshot.the_type D P Q g)
+      (buffer_sync, (search (as_row_sync, buffer_sync, crosses, sendable) depth 40, (version_sync, (search (as_row_sync, crosses, sendable) depth 60, (u64_sync, (pin_sync, tt))))))

@@ -70,10 +70,14 @@ module _ {V : Type 0} where
   turns_later : (turns : List (List Entry)) (v w : Knows V) → InTurns turns v w → IsBeginning v.seen w.seen × (w.opened ≡ v.opened) × (w.start ≡ v.start)
   turns_later [] v w are = (([], append-nil v.seen ∙ sym (ap (λ u. u.seen) are)), ap (λ u. u.opened) are, ap (λ u. u.start) are)
   turns_later (turn ∷ turns) v w are =
-      let rest = turns_later turns are.0 w are.2 in let seen = are.1.seen in
-      ((seen.1.0 ++ turn ++ rest.0.0,
-      sym (append_assoc v.seen (seen.1.0 ++ turn) rest.0.0 ∙ refl) ∙ ap (λ l. l ++ rest.0.0) (sym (append_assoc v.seen seen.1.0 turn) ∙ ap (λ l. l ++ turn) seen.1.1 ∙ sym seen.2) ∙ rest.0.1),
-      rest.1 ∙ are.1.opened, rest.2 ∙ are.1.start)
+      let rest = turns_later turns are.0 w are.2 in let seen = are.1.seen in (
+        (
+          seen.1.0 ++ turn ++ rest.0.0,
+          sym (append_assoc v.seen (seen.1.0 ++ turn) rest.0.0 ∙ refl) ∙ ap (λ l. l ++ rest.0.0) (sym (append_assoc v.seen seen.1.0 turn) ∙ ap (λ l. l ++ turn) seen.1.1 ∙ sym seen.2) ∙ rest.0.1,
+        ),
+        rest.1 ∙ are.1.opened,
+        rest.2 ∙ are.1.start,
+      )
 
   -- These places are answered by now, and these changes are waiting.
   pub record IsListed (caller : ℕ) (asked : List Asked) (places : List ℕ) (waiting : List Asked) (v w : Knows V) : Type 0 where
@@ -103,7 +107,7 @@ module _ {V : Type 0} where
     still_stopped see at stopped =
         let later = turns_later (map (made_entries caller) listed.turns) v w listed.before in
         λ o op. ap (stopped_behind (see o).view.state.stopped (see o).view.state.count) (sym later.0.1)
-            ∙ stays_stopped (see o).view.state.stopped (see o).view.state.count at v.seen later.0.0 (stopped o (sym later.1 ∙ op))
+        ∙ stays_stopped (see o).view.state.stopped (see o).view.state.count at v.seen later.0.0 (stopped o (sym later.1 ∙ op))
 
     -- with one turn more, of the first ones of those that are waiting
     pub one_listed : (turn rest : List Asked) (u : Knows V) → waiting ≡ turn ++ rest → length turn ≤ most_in_row → HasDone (made_entries caller turn) [] w u → (added : List ℕ) → length added ≡ length turn
@@ -218,7 +222,7 @@ module _ {V : Type 0} (caller : ℕ) (asked : List Asked) (places : List ℕ) (r
     pub listed_by_row : refused ≡ None → IsListed caller asked (places ++ added) (behind ++ left) v u
     listed_by_row none =
         let entries : made_entries caller made.made ++ failed_entries caller refused made.rest ≡ made_entries caller made.made =
-            ap (λ r. made_entries caller made.made ++ failed_entries caller r made.rest) none ∙ append-nil (made_entries caller made.made) in
+        ap (λ r. made_entries caller made.made ++ failed_entries caller r made.rest) none ∙ append-nil (made_entries caller made.made) in
         subst (λ l. IsListed caller asked (places ++ added) (l ++ left) v u) (sym (made.left_is none))
         (one_listed caller asked places (row ++ left) v w listed made.made (made.rest ++ left) u front few_made
         (subst (λ l. HasDone l [] w u) entries (subst (λ r. HasDone (made_entries caller made.made ++ failed_entries caller refused made.rest) (spent_by r) w u) none made.turn)) added many_added
@@ -235,14 +239,14 @@ module _ {V : Type 0} (caller : ℕ) (asked : List Asked) (places : List ℕ) (r
         let whole : IsEndedAs (Some why) (made.rest ++ left) = (next.0, next.1 ++ left, ap (λ l. l ++ left) next.2) in
         let first = w.start + length made.turn.seen.0 + 1 in
         let l : (failure : Failure) → failure_of why ≡ Some failure → count_of u ≡ first + length (made_entries caller made.made) = λ failure fails.
-            let one = ap (λ r. length (failed_entries caller (Some why) r)) next.2 ∙ one_failed caller next.0 next.1 why failure fails in
-            let seen = ap length made.turn.seen.2 ∙ length-append made.turn.seen.0 (made_entries caller made.made ++ failed_entries caller refused made.rest) in
-            let entries = ap (λ r. length (made_entries caller made.made ++ failed_entries caller r made.rest)) is ∙ length-append (made_entries caller made.made) (failed_entries caller (Some why) made.rest) in
-            let start = made.turn.start in omega arith in
+        let one = ap (λ r. length (failed_entries caller (Some why) r)) next.2 ∙ one_failed caller next.0 next.1 why failure fails in
+        let seen = ap length made.turn.seen.2 ∙ length-append made.turn.seen.0 (made_entries caller made.made ++ failed_entries caller refused made.rest) in
+        let entries = ap (λ r. length (made_entries caller made.made ++ failed_entries caller r made.rest)) is ∙ length-append (made_entries caller made.made) (failed_entries caller (Some why) made.rest) in
+        let start = made.turn.start in omega arith in
         let told : placed (first + length (made_entries caller made.made)) (failed_entries caller (Some why) made.rest) ≡ told_entries caller (Some why) (made.rest ++ left) =
-            ap (λ r. placed (first + length (made_entries caller made.made)) (failed_entries caller (Some why) r)) next.2
-            ∙ told_at caller Tells PortsFail see u before now next.0 next.1 why (first + length (made_entries caller made.made)) reason l
-            ∙ sym (ap (λ r. told_entries caller (Some why) (r ++ left)) next.2) in
+        ap (λ r. placed (first + length (made_entries caller made.made)) (failed_entries caller (Some why) r)) next.2
+        ∙ told_at caller Tells PortsFail see u before now next.0 next.1 why (first + length (made_entries caller made.made)) reason l
+        ∙ sym (ap (λ r. told_entries caller (Some why) (r ++ left)) next.2) in
         ended_in_turn caller asked places (row ++ left) v w listed made.made (made.rest ++ left) (Some why) u front few_made
         (subst (λ l. HasDone (made_entries caller made.made ++ l) (spent_by (Some why)) w u) (sym same) turn) whole added many_added
         (made.turn.mine ∙ ap (λ r. w.mine ++ placed first (made_entries caller made.made ++ failed_entries caller r made.rest)) is
@@ -262,8 +266,8 @@ module _ {V : Type 0} (caller : ℕ) (asked : List Asked) (places : List ℕ) (c
   ended_by_change Tells PortsFail see before now why done reason =
       let first = w.start + length done.seen.0 + 1 in
       let l : (failure : Failure) → failure_of why ≡ Some failure → count_of u ≡ first = λ failure fails.
-          let one = one_failed caller change left why failure fails in
-          let seen = ap length done.seen.2 ∙ length-append done.seen.0 (failed_entries caller (Some why) (change ∷ left)) in let start = done.start in omega arith in
+      let one = one_failed caller change left why failure fails in
+      let seen = ap length done.seen.2 ∙ length-append done.seen.0 (failed_entries caller (Some why) (change ∷ left)) in let start = done.start in omega arith in
       subst (λ p. HasMadeAll caller asked p (Some why) v u) (append-nil places)
       (ended_in_turn caller asked places (change ∷ left) v w listed [] (change ∷ left) (Some why) u refl (let z : 0 ≤ 256 = omega arith in z) done (change, left, refl) [] refl
       (done.mine ∙ ap (λ l. w.mine ++ l) (told_at caller Tells PortsFail see u before now change left why first reason l)))

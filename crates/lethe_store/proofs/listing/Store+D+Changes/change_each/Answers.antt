@@ -46,9 +46,9 @@ returns-then-is_some-clause-stopped g c =
     let row = c.change_row-made in let u = row.new.session.seat.me.0 in
     let made = subst (λ n. HasMadeRow n c.fill.new.row.items row.new.asked.items row.result.count row.result.row.done row.result.row.refused w u) l.invariant.of.1 row.ensures.made in
     λ at stopped.
-        let idle = row.ensures.stopped at (still_stopped caller asked l.places.items (l.row.items ++ l.left.items) v w l.invariant.listed (λ o. store_view o.engine) at stopped) in
-        let some = sym c.is_some.ensures ∙ c.if-is_some.true in
-        absurd (let clash = sym some ∙ ap is_some idle.1 in cc)
+    let idle = row.ensures.stopped at (still_stopped caller asked l.places.items (l.row.items ++ l.left.items) v w l.invariant.listed (λ o. store_view o.engine) at stopped) in
+    let some = sym c.is_some.ensures ∙ c.if-is_some.true in
+    absurd (let clash = sym some ∙ ap is_some idle.1 in cc)
 
 pub returns-then-is_some-clause-why : goal.returns-then-is_some-clause-why
 returns-then-is_some-clause-why g c =
@@ -81,9 +81,10 @@ returns-then-is_empty-clause-stopped g c =
     let row = c.change_row-made in let u = row.new.session.seat.me.0 in
     let made = subst (λ n. HasMadeRow n c.fill.new.row.items row.new.asked.items row.result.count row.result.row.done row.result.row.refused w u) l.invariant.of.1 row.ensures.made in
     λ at stopped. (
-        let idle = row.ensures.stopped at (still_stopped caller asked l.places.items (l.row.items ++ l.left.items) v w l.invariant.listed (λ o. store_view o.engine) at stopped) in
-        c.append_places.ensures.items ∙ (λ i. l.invariant.stopped at stopped i ++ range_with_len (row.result.count + 1) (idle.0 i))
-    , tt)
+      let idle = row.ensures.stopped at (still_stopped caller asked l.places.items (l.row.items ++ l.left.items) v w l.invariant.listed (λ o. store_view o.engine) at stopped) in
+          c.append_places.ensures.items ∙ (λ i. l.invariant.stopped at stopped i ++ range_with_len (row.result.count + 1) (idle.0 i)),
+      tt,
+    )
 
 pub loop-alloc-preserved-in_default : goal.loop-alloc-preserved-in_default
 loop-alloc-preserved-in_default g c =
@@ -110,8 +111,8 @@ loop-alloc-preserved-in_default g c =
       len = omega (arith, len, before, gone, e, same_left);
       room = subst (λ n. length asked ≤ n) (sym c.append_places.ensures.capacity) l.invariant.room;
       stopped = λ at stopped.
-        let idle = row.ensures.stopped at (still_stopped caller asked l.places.items (l.row.items ++ l.left.items) v w l.invariant.listed (λ o. store_view o.engine) at stopped) in
-        c.append_places.ensures.items ∙ (λ i. l.invariant.stopped at stopped i ++ range_with_len (row.result.count + 1) (idle.0 i));
+          let idle = row.ensures.stopped at (still_stopped caller asked l.places.items (l.row.items ++ l.left.items) v w l.invariant.listed (λ o. store_view o.engine) at stopped) in
+          c.append_places.ensures.items ∙ (λ i. l.invariant.stopped at stopped i ++ range_with_len (row.result.count + 1) (idle.0 i));
       counts = (subst (λ p. AreLater (counts_of (g.D.Disk.fetches c.args.session.now.port) (g.D.Disk.port_faults c.args.session.now.port)) (counts_of (g.D.Disk.fetches p) (g.D.Disk.port_faults p))) (sym row.ensures.of.2) l.invariant.counts);
     }
 
@@ -216,9 +217,9 @@ returns-in-Err-clause-stopped g c =
     let on = listed_by_row caller asked l.places.items c.fill.new.row.items c.fill.new.left.items v w listed row.result.count row.result.row.done row.new.asked.items row.result.row.refused u made few none in
     let listed_on = subst (λ p. IsListed caller asked p (row.new.asked.items ++ c.fill.new.left.items) v u) (sym c.append_places.ensures.items) on in
     λ at stopped.
-        let idle = row.ensures.stopped at (still_stopped caller asked l.places.items (l.row.items ++ l.left.items) v w l.invariant.listed (λ o. store_view o.engine) at stopped) in
-        let fails = c.change.ensures.stopped at (still_stopped caller asked c.append_places.new.places.items (row.new.asked.items ++ c.fill.new.left.items) v u listed_on (λ o. store_view o.engine) at stopped) in
-        (c.append_places.ensures.items ∙ (λ i. l.invariant.stopped at stopped i ++ range_with_len (row.result.count + 1) (idle.0 i)), inr (same_why c.in-Err.why at c.change.result c.in-Err.is fails))
+    let idle = row.ensures.stopped at (still_stopped caller asked l.places.items (l.row.items ++ l.left.items) v w l.invariant.listed (λ o. store_view o.engine) at stopped) in
+    let fails = c.change.ensures.stopped at (still_stopped caller asked c.append_places.new.places.items (row.new.asked.items ++ c.fill.new.left.items) v u listed_on (λ o. store_view o.engine) at stopped) in
+    (c.append_places.ensures.items ∙ (λ i. l.invariant.stopped at stopped i ++ range_with_len (row.result.count + 1) (idle.0 i)), inr (same_why c.in-Err.why at c.change.result c.in-Err.is fails))
 
 pub returns-in-Err-clause-why : goal.returns-in-Err-clause-why
 returns-in-Err-clause-why g c =
@@ -229,4 +230,3 @@ returns-in-Err-clause-why g c =
     let x = c.change.new.session.seat.me.0 in
     let reason = err_of (HasReasonOfChange g.D.Disk.tells g.D.Disk.ports_fail (λ o. store_view o.engine) x (counts_of (g.D.Disk.fetches row.new.session.port) (g.D.Disk.port_faults row.new.session.port)) (counts_of (g.D.Disk.fetches c.change.new.session.port) (g.D.Disk.port_faults c.change.new.session.port))) c.change.result c.change.ensures.why c.in-Err.why c.in-Err.is in
     reason_listed g.D.Disk.tells g.D.Disk.ports_fail (λ o. store_view o.engine) x (counts_of (g.D.Disk.fetches c.args.session.now.port) (g.D.Disk.port_faults c.args.session.now.port)) (counts_of (g.D.Disk.fetches row.new.session.port) (g.D.Disk.port_faults row.new.session.port)) (counts_of (g.D.Disk.fetches c.change.new.session.port) (g.D.Disk.port_faults c.change.new.session.port)) (Some c.in-Err.why) (subst (λ p. AreLater (counts_of (g.D.Disk.fetches c.args.session.now.port) (g.D.Disk.port_faults c.args.session.now.port)) (counts_of (g.D.Disk.fetches p) (g.D.Disk.port_faults p))) (sym row.ensures.of.2) l.invariant.counts) reason
-

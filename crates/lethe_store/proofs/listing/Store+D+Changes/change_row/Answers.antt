@@ -80,4 +80,3 @@ returns-clause-why g c =
     let told = told_so g.D.Disk.tells c.args.asked.now.items row.new.asked.items row.result.done row.result.refused old new row.ensures.answers caller c.learn-count.new.session.caller c.told_changes-told.result.items c.told_row-said.result.items c.told_row-said.ensures (c.learn-count.ensures.of.1 ∙ c.take-held.ensures.of.1) c.told_changes-told.ensures in
     let counts = counts_of (g.D.Disk.fetches c.give.new.session.port) (g.D.Disk.port_faults c.give.new.session.port) in
     reason_row g.D.Disk.tells c.args.asked.now.items row.new.asked.items row.result.done row.result.refused old new row.ensures.answers caller g.D.Disk.ports_fail (λ o. store_view o.engine) v w more leads (ap (λ l. l.items) row.ensures.certificates) c.requires.ready.1 c.give.new.session.seat.me.0 c.told_row-said.result.items c.told_nothing.result.items told (ap (λ m. m.0) c.give.ensures.given) counts counts
-
