@@ -1,0 +1,6 @@
+pub mod Damaged
+pub mod Firsts
+pub mod Objects
+pub mod Held
+pub mod Audited
+pub mod Carried
