@@ -19,7 +19,7 @@ use Rattle.lethe_manifest.specs.declared.manifest.Manifest.{Manifest}
 use Rattle.lethe_manifest.proofs.ManifestLaws.{same_manifest}
 use Rattle.lethe_stored.specs.Files.{file_name}
 use Rattle.lethe_stored.proofs.Unique.{none_or_some, one_greatest}
-use Rattle.lethe_audit.specs.Damaged.{IsHeaderOf, IsSpelled}
+use Rattle.lethe_load.specs.Damaged.{IsHeaderOf, IsSpelled}
 use Rattle.lethe_audit.specs.Audited.{IsAnswer, IsAudited, IsEmptyGate, IsFilledGate, IsFlawed, IsLate, IsNo, IsOfAnother, IsToldOf, IsWhole, IsYoung, HasOld, HasPending, HasUncited}
 use Rattle.lethe_audit.specs.Firsts.{IsFirstBut}
 use Rattle.lethe_audit.specs.Held.{AreHeld, ArePending, puts_in}

@@ -58,7 +58,7 @@ use Rattle.lethe_stored.proofs.Leveled.{low_level}
 use Rattle.lethe_stored.proofs.Lists.{in_flat}
 use Rattle.lethe_stored.proofs.Meanings.{frozen_are}
 use Rattle.lethe_stored.proofs.Unique.{none_or_some, one_greatest}
-use Rattle.lethe_audit.specs.Damaged.{IsHeaderOf, IsSpelled}
+use Rattle.lethe_load.specs.Damaged.{IsHeaderOf, IsSpelled}
 use Rattle.lethe_audit.specs.Audited.{IsAudited, IsLate, IsWhole, IsYoung, last_of}
 use Rattle.lethe_audit.specs.Carried.{Carries, IsCarried, IsCarriedBy, IsCarriedIn, IsTrueOf}
 use Rattle.lethe_audit.specs.Held.{AreHeld, ArePending, HasAllRecords}

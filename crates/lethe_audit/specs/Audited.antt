@@ -12,7 +12,7 @@ use Rattle.lethe_manifest.specs.declared.manifest.LastCert.{LastCert}
 use Rattle.lethe_manifest.specs.declared.manifest.Manifest.{Manifest}
 use Rattle.lethe_commit.specs.Gates.{gate_name}
 use Rattle.lethe_commit.specs.Switch.{HasGreatest}
-use Rattle.lethe_audit.specs.Damaged.{IsSpelled}
+use Rattle.lethe_load.specs.Damaged.{IsSpelled}
 use Rattle.lethe_audit.specs.Firsts.{IsFirstBut}
 use Rattle.lethe_audit.specs.Held.{AreHeld, ArePending, puts_in}
 use Rattle.lethe_audit.specs.Objects.{IsSpelling, AreIntact, HasFlawInParts, IsCitedBy}

@@ -1,4 +1,3 @@
-pub mod Damaged
 pub mod Firsts
 pub mod Objects
 pub mod Held

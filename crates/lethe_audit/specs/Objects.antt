@@ -16,7 +16,7 @@ use Rattle.lethe_commit.specs.Switch.{manifest_name}
 use Rattle.lethe_stored.specs.Clean.{Spells}
 use Rattle.lethe_stored.specs.Files.{file_name}
 use Rattle.lethe_stored.specs.Stored.{segment_name}
-use Rattle.lethe_audit.specs.Damaged.{IsHeaderOf}
+use Rattle.lethe_load.specs.Damaged.{IsHeaderOf}
 use Rattle.lethe_audit.specs.Firsts.{IsFirstBut}
 use Rattle.lethe_audit.specs.declared.answer.NoWhy.{NoWhy}
 use Rattle.lethe_audit.specs.declared.answer.NoWhy.TheVariants as no
