@@ -26,9 +26,9 @@ CALLS = (
     ("Key", "a key", ["lethe_base/src/key.rt"]),
     ("Value", "a value", ["lethe_base/src/value.rt"]),
     ("Range", "delete keys from one up to another", ["lethe_base/src/range.rt"]),
-    ("Certificate", "what a tick certifies", ["lethe_cert/src/certificate.rt"]),
+    ("Certificate", "what a tick certifies", ["lethe_cert/src/certificate.rt", "lethe_cert/src/form.rt"]),
     (None, "many changes at once", ["lethe_changes/src/changes.rt"]),
-    ("Store", "a store that several threads share", [f"lethe_store/src/{it}.rt" for it in ("changes", "changing", "reading", "ticking", "pinning", "store")]),
+    ("Store", "a store that several threads share", [f"lethe_store/src/{it}.rt" for it in ("changes", "changing", "listing", "reading", "ticking", "pinning", "store")]),
     ("Session", "a caller of a shared store", ["lethe_store/src/session.rt"]),
 )
 # What calls of the engine itself make of a job, what contracts alone speak of, and what serves those who share a store by a log of their own.
