@@ -1,0 +1,4 @@
+pub mod Firsts
+pub mod Spelled
+pub mod OneAnswer
+pub mod Truth

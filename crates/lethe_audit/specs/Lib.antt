@@ -1,0 +1,5 @@
+pub mod Firsts
+pub mod Objects
+pub mod Held
+pub mod Audited
+pub mod Carried
